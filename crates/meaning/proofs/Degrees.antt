@@ -1,0 +1,141 @@
+-- The degree of two symbols: a listed pair has its listed degree, in either order, since pairs rise.
+use mathlib.Core.Path.{_≡_, refl, ap, _∙_, subst}
+use mathlib.Core.Logic.{_⊎_, inl, inr}
+use mathlib.Core.List.{List, [], _∷_}
+use mathlib.Core.Bool.{Bool, true, false, _&&_, _||_, cond, false≢true}
+use mathlib.Core.Option.{none}
+use Prim.Native.Nat.{ℕ, zero, suc, _≤_, _<_}
+use native.Mathlib.Nat.{not-suc-le-zero}
+use native.Mathlib.Omega.{arith}
+use lib.Dec.{eqb, ltb}
+use lib.ListN.{length, getD}
+use borrow.Author.Tests.{ltb-true, lt-ltb, le-ltb, eqb-true, eq-eqb, ne-eqb, not-false}
+use Rattle.theory.specs.Least.{All}
+use Rattle.theory.specs.Table.{Lawful}
+use Rattle.theory.specs.Pairs.{Pair, pair, isPair, listed, SoundPair}
+use Rattle.theory.proofs.Lemmas.{all-getD, all-map}
+use Rattle.meaning.specs.File.{symbolCount, pairCount, aritiesIn, pairsIn, tableIn}
+use Rattle.meaning.specs.Refusals.{first, rises, unordered, tableRows}
+use Rattle.meaning.specs.Calls.{gives, symbolDegree}
+use Rattle.meaning.specs.Further.{SymbolDegrees}
+use Rattle.meaning.proofs.Sound.{Passed, passed, length-pairsIn, length-aritiesIn, sound}
+
+-- ---- rising pairs
+
+-- b stands after a
+abbrev After : Pair → Pair → Type 0
+After (pair l h d) (pair l′ h′ d′) = (l < l′) ⊎ ((l ≡ l′) × (h < h′))
+
+rises-after : (a b : Pair) → rises a b ≡ true → After a b
+rises-after (pair l h d) (pair l′ h′ d′) e = go (ltb l l′) refl (eqb l l′) refl (ltb h h′) refl e
+  where
+    go : (p : Bool) → ltb l l′ ≡ p → (q : Bool) → eqb l l′ ≡ q → (r : Bool) → ltb h h′ ≡ r → (p || (q && r)) ≡ true → (l < l′) ⊎ ((l ≡ l′) × (h < h′))
+    go true p q′ q r′ r e = inl (ltb-true l l′ p)
+    go false p true q true r e = inr (eqb-true l l′ q, ltb-true h h′ r)
+    go false p true q false r e = absurd (false≢true e)
+    go false p false q r′ r e = absurd (false≢true e)
+
+after-on : (a b c : Pair) → After a b → After b c → After a c
+after-on (pair l h d) (pair l′ h′ d′) (pair l″ h″ d″) (inl p) (inl q) = inl (omega arith)
+after-on (pair l h d) (pair l′ h′ d′) (pair l″ h″ d″) (inl p) (inr q) = inl (omega (arith, q .0))
+after-on (pair l h d) (pair l′ h′ d′) (pair l″ h″ d″) (inr p) (inl q) = inl (omega (arith, p .0))
+after-on (pair l h d) (pair l′ h′ d′) (pair l″ h″ d″) (inr p) (inr q) = inr (p .0 ∙ q .0, omega (arith, p .1, q .1))
+
+abbrev Sorted : List Pair → Type 0
+Sorted [] = Unit {0}
+Sorted (p ∷ ps) = All (After p) ps × Sorted ps
+
+sorted : (ps : List Pair) → ((k : ℕ) → k < length ps → unordered ps k ≡ false) → Sorted ps
+sorted [] h = tt
+sorted (a ∷ []) h = (tt, tt)
+sorted (a ∷ (b ∷ ps)) h =
+    let s = sorted (b ∷ ps) (λ k l. next k l) in
+    let r : After a b = rises-after a b (not-false (rises a b) (h 1 (omega arith))) in
+    ((r, all-map ps (λ c q. after-on a b c r q) (s .0)), s)
+  where
+    next : (k : ℕ) → k < length (b ∷ ps) → unordered (b ∷ ps) k ≡ false
+    next zero l = refl
+    next (suc k) l = h (suc (suc k)) (omega arith)
+
+-- ---- what is listed
+
+-- a pair that stands before is another, in either order
+other-pair : (l h l′ h′ : ℕ) → l < h → l′ < h′ → (l < l′) ⊎ ((l ≡ l′) × (h < h′)) → isPair l h l′ h′ ≡ false
+other-pair l h l′ h′ p q r = go (eqb l′ l) refl (eqb h′ h) refl (eqb l′ h) refl (eqb h′ l) refl r
+  where
+    go : (a : Bool) → eqb l′ l ≡ a → (b : Bool) → eqb h′ h ≡ b → (c : Bool) → eqb l′ h ≡ c → (d : Bool) → eqb h′ l ≡ d → (l < l′) ⊎ ((l ≡ l′) × (h < h′))
+        → ((a && b) || (c && d)) ≡ false
+    go true e true f c g d k (inl s) = absurd (omega (arith, eqb-true l′ l e))
+    go true e true f c g d k (inr s) = absurd (omega (arith, s .1, eqb-true h′ h f))
+    go true e false f true g true k s = absurd (omega (arith, eqb-true l′ h g, eqb-true h′ l k))
+    go true e false f true g false k s = refl
+    go true e false f false g d k s = refl
+    go false e b f true g true k s = absurd (omega (arith, eqb-true l′ h g, eqb-true h′ l k))
+    go false e b f true g false k s = refl
+    go false e b f false g d k s = refl
+
+-- LAW: of sound pairs that rise, the pair at an index has its own degree listed
+listed-at : (arities : List ℕ) (ps : List Pair) → All (SoundPair arities) ps → Sorted ps → (k l h d : ℕ) → k < length ps → getD ps k (pair 0 0 0) ≡ pair l h d → listed ps l h ≡ d
+listed-at arities [] s o k l h d m e = absurd (not-suc-le-zero m)
+listed-at arities (pair l′ h′ d′ ∷ ps) s o zero l h d m e =
+    let a : l ≡ l′ = cc in
+    let b : h ≡ h′ = cc in
+    rw (eq-eqb l l′ a, eq-eqb h h′ b) (cc)
+listed-at arities (pair l′ h′ d′ ∷ ps) s o (suc k) l h d m e =
+    let q = subst (After (pair l′ h′ d′)) e (all-getD (After (pair l′ h′ d′)) ps k (pair 0 0 0) (omega arith) (o .0)) in
+    let r = subst (SoundPair arities) e (all-getD (SoundPair arities) ps k (pair 0 0 0) (omega arith) (s .1)) in
+    rw (other-pair l′ h′ l h (s .0 .0) (r .0) q) (listed-at arities ps (s .1) (o .1) k l h d (omega arith) e)
+
+listed-none : (ps : List Pair) (a b : ℕ) → ((k l h d : ℕ) → k < length ps → getD ps k (pair 0 0 0) ≡ pair l h d → isPair l h a b ≡ false) → listed ps a b ≡ 0
+listed-none [] a b n = refl
+listed-none (pair l h d ∷ ps) a b n = rw (n 0 l h d (omega arith) refl) (listed-none ps a b (λ k l h d m e. n (suc k) l h d (omega arith) e))
+
+-- ---- THEOREM: the degrees of symbols in a table that is not refused
+
+module _ (table : List ℕ) (e : first (tableRows table) ≡ none) where
+  q : Passed table
+  q = passed table e
+
+  L : Lawful (tableIn table)
+  L = sound table e .lawful
+
+  -- the call answers with the table's degree
+  gives-degree : (a b d : ℕ) → tableIn table .deg a b ≡ d → symbolDegree table a b ≡ gives d
+  unfolding symbolDegree
+  gives-degree a b d k = rw e (ap gives k)
+
+  degree-listed : (k l h d : ℕ) → k < pairCount table → getD (pairsIn table) k (pair 0 0 0) ≡ pair l h d → tableIn table .deg l h ≡ d
+  unfolding tableIn
+  degree-listed k l h d m f =
+      let n : k < length (pairsIn table) = omega (arith, length-pairsIn table) in
+      let s = subst (SoundPair (aritiesIn table)) f (all-getD (SoundPair (aritiesIn table)) (pairsIn table) k (pair 0 0 0) n (q .pairs)) in
+      rw (lt-ltb l (length (aritiesIn table)) (omega (arith, s .0, s .1)), lt-ltb h (length (aritiesIn table)) (s .1), ne-eqb l h (λ z. omega (arith, s .0)))
+      (listed-at (aritiesIn table) (pairsIn table) (q .pairs) (sorted (pairsIn table) (q .ordered)) k l h d n f)
+
+  degree-others : (a b : ℕ) → (a ≡ b → ⊥) → ((k l h d : ℕ) → k < pairCount table → getD (pairsIn table) k (pair 0 0 0) ≡ pair l h d → isPair l h a b ≡ false) → tableIn table .deg a b ≡ 0
+  unfolding tableIn
+  degree-others a b n no-pair =
+      rw (ne-eqb a b n, listed-none (pairsIn table) a b (λ k l h d m f. no-pair k l h d (omega (arith, length-pairsIn table)) f)) (both (ltb a (length (aritiesIn table)) && ltb b (length (aritiesIn table))))
+    where
+      both : (t : Bool) → _≡_ {A = ℕ} (cond t 0 0) 0
+      both true = refl
+      both false = refl
+
+  degree-outside : (a b : ℕ) → (symbolCount table ≤ a) ⊎ (symbolCount table ≤ b) → tableIn table .deg a b ≡ 0
+  unfolding tableIn
+  degree-outside a b (inl l) = rw (le-ltb a (length (aritiesIn table)) (omega (arith, length-aritiesIn table q)))
+  degree-outside a b (inr l) = rw (le-ltb b (length (aritiesIn table)) (omega (arith, length-aritiesIn table q))) (zero-of (ltb a (length (aritiesIn table))))
+    where
+      zero-of : (t : Bool) → cond (t && false) (cond (eqb a b) 1000 (listed (pairsIn table) a b)) 0 ≡ 0
+      zero-of true = refl
+      zero-of false = refl
+
+  pub symbol-degrees : SymbolDegrees table
+  unfolding tableIn
+  symbol-degrees =
+      record {
+        itself = λ a l. gives-degree a a 1000 (L .itself a (omega (arith, length-aritiesIn table q)));
+        listed = λ k l h d m f. (gives-degree l h d (degree-listed k l h d m f), gives-degree h l d (L .either h l ∙ degree-listed k l h d m f));
+        others = λ a b n f. gives-degree a b 0 (degree-others a b n f);
+        outside = λ a b o. gives-degree a b 0 (degree-outside a b o);
+      }

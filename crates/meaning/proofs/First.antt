@@ -1,0 +1,131 @@
+-- The law of `first`: a refusal is given exactly if its row holds there and no row before it holds. So each call refuses exactly by its rows.
+use mathlib.Core.Path.{_≡_, refl, sym as inv, ap}
+use mathlib.Core.Logic.{_↔_}
+use mathlib.Core.List.{List, [], _∷_, _++_}
+use mathlib.Core.Option.{Option, none, some as just, Option·some-ne-none}
+use Prim.Native.Nat.{ℕ, zero, suc, _<_}
+use native.Mathlib.Nat.{not-suc-le-zero}
+use native.Mathlib.Omega.{arith}
+use native.Mathlib.Decide.{decLt}
+use mathlib.Core.Bool.{Bool, true, false}
+use Rattle.theory.specs.Least.{leastBelow}
+use lib.ListN.{length, getD}
+use Rattle.theory.specs.Least.{All}
+use Rattle.meaning.specs.Refusals.{Refusal, refusal, Row, row, first, Given}
+use Rattle.meaning.specs.Calls.{refused, gives, unless, isTable, symbolDegree, headingDegree, matched, written, arityBack, pairBack}
+use Rattle.meaning.specs.Demands.{Exactly, Demand1}
+
+-- a row more in front, which does not hold
+more : (m : ℕ) (rows : List Row) (n place : ℕ) → Given rows n place → Given (row m none ∷ rows) n place
+more m rows n place g = record { index = suc (g .index); inside = omega (arith, g .inside); holds = g .holds; none-before = before }
+  where
+    before : (k : ℕ) → k < suc (g .index) → (j : ℕ) × (getD (row m none ∷ rows) k (row 0 none) ≡ row j none)
+    before zero l = (m, refl)
+    before (suc k) l = g .none-before k (omega arith)
+
+pub first-given : (rows : List Row) (n place : ℕ) → first rows ≡ just (refusal n place) → Given rows n place
+first-given [] n place e = absurd (Option·some-ne-none (refusal n place) (inv e))
+first-given (row m (just i) ∷ rows) n place e =
+    record { index = 0; inside = omega arith; holds = cc; none-before = λ k l. absurd (not-suc-le-zero l) }
+first-given (row m none ∷ rows) n place e = more m rows n place (first-given rows n place e)
+
+pub given-first : (rows : List Row) (n place : ℕ) → Given rows n place → first rows ≡ just (refusal n place)
+given-first rows n place g = go rows (g .index) (g .inside) (g .holds) (g .none-before)
+  where
+    go : (rows : List Row) (i : ℕ) → i < length rows → getD rows i (row 0 none) ≡ row n (just place)
+        → ((k : ℕ) → k < i → (m : ℕ) × (getD rows k (row 0 none) ≡ row m none)) → first rows ≡ just (refusal n place)
+    go [] i l e b = absurd (not-suc-le-zero l)
+    go (row m (just j) ∷ rows) zero l e b = cc
+    go (row m none ∷ rows) zero l e b = let z : _≡_ {A = ℕ} 0 1 = cc in absurd (omega arith)
+    go (row m (just j) ∷ rows) (suc i) l e b =
+        let q = b 0 (omega arith) .1 in let z : _≡_ {A = ℕ} 0 1 = cc in absurd (omega arith)
+    go (row m none ∷ rows) (suc i) l e b = go rows i (omega arith) e (λ k l. b (suc k) (omega arith))
+
+-- LAW: `first` gives a refusal exactly if its row holds there and none before it does
+pub first-exactly : (rows : List Row) (n place : ℕ) → first rows ≡ just (refusal n place) ↔ Given rows n place
+first-exactly rows n place = (first-given rows n place, given-first rows n place)
+
+-- ---- calls that are refused by rows
+
+module _ {A : Type 0} where
+  pub unless-refused : (o : Option Refusal) (a : A) (n place : ℕ) → unless o a ≡ refused n place → o ≡ just (refusal n place)
+  unless-refused none a n place e = let z : _≡_ {A = ℕ} 0 1 = cc in absurd (omega arith)
+  unless-refused (just (refusal m i)) a n place e = cc
+
+  pub unless-gives : (o : Option Refusal) (a b : A) → unless o a ≡ gives b → (o ≡ none) × (a ≡ b)
+  unless-gives none a b e = (refl, cc)
+  unless-gives (just (refusal m i)) a b e = let z : _≡_ {A = ℕ} 0 1 = cc in absurd (omega arith)
+
+  pub exactly : (rows : List Row) (a : A) → Exactly rows (unless (first rows) a)
+  exactly rows a =
+      record {
+        given = λ n place. (
+          (λ e. first-given rows n place (unless-refused (first rows) a n place e)),
+          (λ g. ap (λ o. unless o a) (given-first rows n place g)),
+        );
+        otherwise = λ no. go no (first rows) refl;
+      }
+    where
+      go : ((n place : ℕ) → Given rows n place → ⊥) → (o : Option Refusal) → first rows ≡ o → (b : A) × (unless o a ≡ gives b)
+      go never none e = (a, refl)
+      go never (just (refusal n place)) e = absurd (never n place (first-given rows n place e))
+
+-- THEOREM, demand 1's refusals: every call with numbered refusals gives each exactly by its rows
+pub demand1 : Demand1
+unfolding isTable symbolDegree headingDegree matched written arityBack pairBack
+demand1 =
+    record {
+      is-table = λ table. exactly _ _;
+      symbol-degree = λ table a b. exactly _ _;
+      heading-degree = λ table one two. exactly _ _;
+      match = λ table pattern heading cut spans sets. exactly _ _;
+      writer = λ arities pairs output. exactly _ _;
+      arity-back = λ table a. exactly _ _;
+      pair-back = λ table k. exactly _ _;
+    }
+
+-- ---- rows in two parts
+
+pub first-append : (xs ys : List Row) → first xs ≡ none → first (xs ++ ys) ≡ first ys
+first-append [] ys e = refl
+first-append (row n (just i) ∷ xs) ys e = absurd (Option·some-ne-none (refusal n i) e)
+first-append (row n none ∷ xs) ys e = first-append xs ys e
+
+pub append-none : (xs ys : List Row) → first (xs ++ ys) ≡ none → (first xs ≡ none) × (first ys ≡ none)
+append-none [] ys e = (refl, e)
+append-none (row n (just i) ∷ xs) ys e = absurd (Option·some-ne-none (refusal n i) e)
+append-none (row n none ∷ xs) ys e = append-none xs ys e
+
+-- no row holds
+abbrev pub placeOf : Row → Option ℕ
+placeOf (row n o) = o
+
+abbrev pub Silent : Row → Type 0
+Silent r = placeOf r ≡ none
+
+pub all-silent : (rows : List Row) → first rows ≡ none → All Silent rows
+all-silent [] e = tt
+all-silent (row n none ∷ rows) e = (refl, all-silent rows e)
+all-silent (row n (just i) ∷ rows) e = absurd (Option·some-ne-none (refusal n i) e)
+
+pub silent-first : (rows : List Row) → All Silent rows → first rows ≡ none
+silent-first [] h = refl
+silent-first (row n none ∷ rows) h = silent-first rows (h .1)
+silent-first (row n (just i) ∷ rows) h = absurd (Option·some-ne-none i (h .0))
+
+-- ---- the least number that passes, as a loop seeks it
+
+-- none below k, and k does not pass
+pub least-on : (b : ℕ → Bool) (k : ℕ) → leastBelow k b ≡ none → b k ≡ false → leastBelow (suc k) b ≡ none
+least-on b k e q = rw (e, q)
+
+-- none below k, and k passes
+pub least-at : (b : ℕ → Bool) (k n : ℕ) → leastBelow k b ≡ none → b k ≡ true → k < n → leastBelow n b ≡ just k
+least-at b k zero e q l = absurd (not-suc-le-zero l)
+least-at b k (suc n) e q l = go (decLt k n) (least-at b k n e q)
+  where
+    go : Dec (k < n) → (k < n → leastBelow n b ≡ just k) → leastBelow (suc n) b ≡ just k
+    go (yes m) rest = rw (rest m)
+    go (no m) rest =
+        let s : n ≡ k = omega arith in
+        rw (s, e, q)

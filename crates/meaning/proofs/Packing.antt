@@ -1,0 +1,186 @@
+-- Packing: variables stand without gaps, in order; what one reads at a variable's positions are its sets; the heading has room for all.
+use mathlib.Core.Path.{_≡_, refl, sym as inv, ap, _∙_, subst}
+use mathlib.Core.List.{List, [], _∷_, _++_}
+use mathlib.Core.Bool.{Bool, true, false, cond, false≢true}
+use mathlib.Core.Option.{none}
+use Prim.Native.Nat.{ℕ, zero, suc, _+_, _*_, _≤_, _<_}
+use native.Mathlib.Nat.{not-suc-le-zero, mul-le-mul-left}
+use native.Mathlib.Omega.{arith}
+use lib.Dec.{eqb}
+use lib.Seq.{getD-append-add}
+use lib.ListN.{length, getD, length-append, List·getD-append}
+use borrow.Author.Tests.{eqb-true, eqb-false, eq-eqb, ne-eqb}
+use Rattle.theory.specs.Tree.{Term, Pattern}
+use Rattle.theory.specs.Table.{Table, Lawful, Over, Overₚ}
+use Rattle.theory.specs.Faces.{Face, meets, binds, faces, facing, keep}
+use Rattle.theory.specs.Match.{size, inSet, clash}
+use Rattle.theory.proofs.Lemmas.{last-or-below}
+use Rattle.theory.proofs.Matchers.{none-clear}
+use Rattle.theory.proofs.Taken.{taken, taken-all}
+use Rattle.meaning.specs.Packing.{through, variables, without, firsts, order, countOf, sum, packedCount, startIn, among, spanOf, packedSpans, setsOf}
+
+-- ---- lists of equal width, one after the other
+
+module _ {A : Type 0} (f : ℕ → List A) (m : ℕ) (wide : (k : ℕ) → length (f k) ≡ m) (d : A) where
+  pub length-through : (n : ℕ) → length (through n f) ≡ m * n
+  length-through zero = omega arith
+  length-through (suc n) = omega (arith, length-append (through n f) (f n), length-through n, wide n)
+
+  -- LAW: number j of the list k
+  pub through-at : (n k j : ℕ) → k < n → j < m → getD (through n f) (m * k + j) d ≡ getD (f k) j d
+  through-at zero k j l b = absurd (not-suc-le-zero l)
+  through-at (suc n) k j l b = last-or-below {P = λ k. getD (through (suc n) f) (m * k + j) d ≡ getD (f k) j d} n top (λ k l. below k l (through-at n k j l b)) k l
+    where
+      top : getD (through n f ++ f n) (m * n + j) d ≡ getD (f n) j d
+      top = ap (λ i. getD (through n f ++ f n) (i + j) d) (inv (length-through n)) ∙ getD-append-add (through n f) (f n) j d
+
+      below : (k : ℕ) → k < n → getD (through n f) (m * k + j) d ≡ getD (f k) j d → getD (through n f ++ f n) (m * k + j) d ≡ getD (f k) j d
+      below k l e = List·getD-append (through n f) (f n) d (m * k + j) (omega (arith, length-through n, mul-le-mul-left m l)) ∙ e
+
+-- ---- in order, each once
+
+without-among : (v w : ℕ) → eqb w v ≡ false → (xs : List ℕ) → among v xs ≡ true → among v (without w xs) ≡ true
+without-among v w n [] e = e
+without-among v w n (x ∷ xs) e = go (eqb w x) refl (eqb v x) refl e (without-among v w n xs)
+  where
+    go : (a : Bool) → eqb w x ≡ a → (b : Bool) → eqb v x ≡ b → cond b true (among v xs) ≡ true → (among v xs ≡ true → among v (without w xs) ≡ true)
+        → among v (cond a (without w xs) (x ∷ without w xs)) ≡ true
+    go true p true q e rest = absurd (eqb-false w v n (eqb-true w x p ∙ inv (eqb-true v x q)))
+    go true p false q e rest = rest e
+    go false p true q e rest = rw q
+    go false p false q e rest = rw q (rest e)
+
+firsts-among : (v : ℕ) (xs : List ℕ) → among v xs ≡ true → among v (firsts xs) ≡ true
+firsts-among v [] e = e
+firsts-among v (x ∷ xs) e = go (eqb v x) refl e (firsts-among v xs)
+  where
+    go : (b : Bool) → eqb v x ≡ b → cond b true (among v xs) ≡ true → (among v xs ≡ true → among v (firsts xs) ≡ true)
+        → cond b true (among v (without x (firsts xs))) ≡ true
+    go true q e rest = refl
+    go false q e rest = without-among v x (ne-eqb x v (λ p. eqb-false v x q (inv p))) (firsts xs) (rest e)
+
+variables-among : (v : ℕ) (fs : List Face) → 0 < length (facing v fs) → among v (variables fs) ≡ true
+variables-among v [] l = absurd (not-suc-le-zero l)
+variables-among v (meets f g ∷ fs) l = variables-among v fs l
+variables-among v (binds w t ∷ fs) l = go (eqb v w) l (variables-among v fs)
+  where
+    go : (b : Bool) → 0 < length (keep b t (facing v fs)) → (0 < length (facing v fs) → among v (variables fs) ≡ true) → cond b true (among v (variables fs)) ≡ true
+    go true l rest = refl
+    go false l rest = rest l
+
+-- LAW: a variable that faces something is packed
+pub order-among : (v : ℕ) (fs : List Face) → 0 < length (facing v fs) → among v (order fs) ≡ true
+order-among v fs l = firsts-among v (variables fs) (variables-among v fs l)
+
+-- ---- spans
+
+span-wide : (fs : List Face) (v : ℕ) → length (spanOf fs v) ≡ 2
+span-wide fs v = go (among v (order fs))
+  where
+    go : (b : Bool) → length (cond b (startIn (countOf fs) v (order fs) ∷ countOf fs v ∷ []) (0 ∷ 0 ∷ [])) ≡ 2
+    go true = refl
+    go false = refl
+
+pub length-spans : (fs : List Face) → length (packedSpans fs) ≡ 64
+unfolding packedSpans
+length-spans fs = length-through (spanOf fs) 2 (span-wide fs) 0 32
+
+-- LAW: the two numbers of a variable below 32
+pub span-at : (fs : List Face) (rest : List ℕ) (v j : ℕ) → v < 32 → j < 2 → getD (packedSpans fs ++ rest) (2 * v + j) 0 ≡ getD (spanOf fs v) j 0
+unfolding packedSpans
+span-at fs rest v j l m =
+    List·getD-append (through 32 (spanOf fs)) rest 0 (2 * v + j) (omega (arith, length-through (spanOf fs) 2 (span-wide fs) 0 32))
+    ∙ through-at (spanOf fs) 2 (span-wide fs) 0 32 v j l m
+
+-- ---- sets
+
+module _ (T : Table) (c : ℕ) (fs : List Face) where
+  abbrev pub one : ℕ → ℕ → List (ℕ → Bool)
+  one v k = inSet T c (facing v fs) k ∷ []
+
+  pub length-one : (v : ℕ) → length (through (countOf fs v) (one v)) ≡ countOf fs v
+  length-one v = omega (arith, length-through (one v) 1 (λ k. refl) (λ s. false) (countOf fs v))
+
+  -- LAW: at a packed variable's positions stand its sets
+  pub set-at : (vs : List ℕ) (v k : ℕ) → among v vs ≡ true → k < countOf fs v
+      → getD (setsOf T c fs vs) (startIn (countOf fs) v vs + k) (λ s. false) ≡ inSet T c (facing v fs) k
+  set-at [] v k e l = absurd (false≢true e)
+  set-at (w ∷ ws) v k e l = go (eqb v w) refl e (set-at ws v k)
+    where
+      go : (b : Bool) → eqb v w ≡ b → cond b true (among v ws) ≡ true
+          → (among v ws ≡ true → k < countOf fs v → getD (setsOf T c fs ws) (startIn (countOf fs) v ws + k) (λ s. false) ≡ inSet T c (facing v fs) k)
+          → getD (through (countOf fs w) (one w) ++ setsOf T c fs ws) (cond b 0 (countOf fs w + startIn (countOf fs) v ws) + k) (λ s. false) ≡ inSet T c (facing v fs) k
+      go true q e rest =
+          let i : 0 + k ≡ 1 * k + 0 = omega arith in
+          let m : k < countOf fs w = subst (λ x. k < countOf fs x) (eqb-true v w q) l in
+          List·getD-append (through (countOf fs w) (one w)) (setsOf T c fs ws) (λ s. false) (0 + k) (omega (arith, length-one w))
+          ∙ ap (λ i. getD (through (countOf fs w) (one w)) i (λ s. false)) i
+          ∙ through-at (one w) 1 (λ k. refl) (λ s. false) (countOf fs w) k 0 m (omega arith)
+          ∙ ap (λ x. inSet T c (facing x fs) k) (inv (eqb-true v w q))
+      go false q e rest =
+          let i : countOf fs w + startIn (countOf fs) v ws + k ≡ length (through (countOf fs w) (one w)) + (startIn (countOf fs) v ws + k) = omega (arith, length-one w) in
+          ap (λ i. getD (through (countOf fs w) (one w) ++ setsOf T c fs ws) i (λ s. false)) i
+          ∙ getD-append-add (through (countOf fs w) (one w)) (setsOf T c fs ws) (startIn (countOf fs) v ws + k) (λ s. false)
+          ∙ rest e l
+
+-- ---- two packings of sets, position by position
+
+abbrev Within : List (ℕ → Bool) → List (ℕ → Bool) → Type 0
+Within [] ys = Unit {0}
+Within (x ∷ xs) [] = ⊥
+Within (x ∷ xs) (y ∷ ys) = ((s : ℕ) → x s ≡ true → y s ≡ true) × Within xs ys
+
+within-append : (xs ys us vs : List (ℕ → Bool)) → length xs ≡ length ys → Within xs ys → Within us vs → Within (xs ++ us) (ys ++ vs)
+within-append [] [] us vs e h k = k
+within-append [] (y ∷ ys) us vs e h k = absurd (omega arith)
+within-append (x ∷ xs) [] us vs e h k = absurd h
+within-append (x ∷ xs) (y ∷ ys) us vs e h k = (h .0, within-append xs ys us vs (omega arith) (h .1) k)
+
+within-at : (xs ys : List (ℕ → Bool)) → Within xs ys → (p s : ℕ) → getD xs p (λ s. false) s ≡ true → getD ys p (λ s. false) s ≡ true
+within-at [] ys h p s e = absurd (false≢true e)
+within-at (x ∷ xs) [] h p s e = absurd h
+within-at (x ∷ xs) (y ∷ ys) h zero s e = h .0 s e
+within-at (x ∷ xs) (y ∷ ys) h (suc p) s e = within-at xs ys (h .1) p s e
+
+module _ (T : Table) (c d : ℕ) (fs : List Face) (inside : (ts : List Term) (k s : ℕ) → inSet T d ts k s ≡ true → inSet T c ts k s ≡ true) where
+  through-within : (v n : ℕ) → Within (through n (one T d fs v)) (through n (one T c fs v))
+  through-within v zero = tt
+  through-within v (suc n) =
+      within-append (through n (one T d fs v)) (through n (one T c fs v)) (one T d fs v n) (one T c fs v n)
+      (length-through (one T d fs v) 1 (λ k. refl) (λ s. false) n ∙ inv (length-through (one T c fs v) 1 (λ k. refl) (λ s. false) n))
+      (through-within v n) ((λ s e. inside (facing v fs) n s e), tt)
+
+  sets-within : (vs : List ℕ) → Within (setsOf T d fs vs) (setsOf T c fs vs)
+  sets-within [] = tt
+  sets-within (v ∷ vs) =
+      within-append (through (countOf fs v) (one T d fs v)) (through (countOf fs v) (one T c fs v)) (setsOf T d fs vs) (setsOf T c fs vs)
+      (length-one T d fs v ∙ inv (length-one T c fs v)) (through-within v (countOf fs v)) (sets-within vs)
+
+  -- LAW: if each set at d is part of the set at c, so it is at each position packed
+  pub sets-inside : (vs : List ℕ) (p s : ℕ) → getD (setsOf T d fs vs) p (λ s. false) s ≡ true → getD (setsOf T c fs vs) p (λ s. false) s ≡ true
+  sets-inside vs = within-at (setsOf T d fs vs) (setsOf T c fs vs) (sets-within vs)
+
+-- ---- room
+
+sum-more : (f g : ℕ → ℕ) → (w : ℕ) → ((v : ℕ) → eqb w v ≡ false → f v ≡ g v) → (xs : List ℕ) → sum f (without w xs) ≤ sum g xs
+sum-more f g w h [] = omega arith
+sum-more f g w h (x ∷ xs) = go (eqb w x) refl (sum-more f g w h xs)
+  where
+    go : (b : Bool) → eqb w x ≡ b → sum f (without w xs) ≤ sum g xs → sum f (cond b (without w xs) (x ∷ without w xs)) ≤ g x + sum g xs
+    go true e l = omega arith
+    go false e l = omega (arith, h x e)
+
+count-other : (w : ℕ) (t : Term) (fs : List Face) (v : ℕ) → eqb w v ≡ false → countOf (binds w t ∷ fs) v ≡ countOf fs v
+count-other w t fs v e = rw (ne-eqb v w (λ q. eqb-false w v e (inv q)))
+
+packed-taken : (fs : List Face) → packedCount fs ≤ taken fs
+unfolding packedCount
+packed-taken [] = omega arith
+packed-taken (meets f g ∷ fs) = omega (arith, packed-taken fs)
+packed-taken (binds w t ∷ fs) =
+    let s : countOf (binds w t ∷ fs) w ≡ size t = rw (eq-eqb w w refl) in
+    omega (arith, s, sum-more (countOf (binds w t ∷ fs)) (countOf fs) w (count-other w t fs) (firsts (variables fs)), packed-taken fs)
+
+-- LAW: refusal 11 is never given
+pub room : (T : Table) (L : Lawful T) (c : ℕ) → 0 < c → (p : Pattern) (h : Term) → Overₚ T p → Over T h → clash T c (faces p h) ≡ none → packedCount (faces p h) ≤ size h
+room T L c pos p h op oh e = omega (arith, packed-taken (faces p h), taken-all T L c pos p h op oh (none-clear T c (faces p h) e))

@@ -1,0 +1,22 @@
+-- What is proved of the definitions in specs/.
+pub mod Lemmas
+pub mod Flat
+pub mod Score
+pub mod Relabel
+pub mod Draw
+pub mod Matchers
+pub mod Forms
+pub mod Theorems
+pub mod Verdict
+pub mod Corollaries
+pub mod Place
+pub mod Growing
+pub mod Present
+pub mod Taken
+pub mod More
+pub mod Rows
+pub mod Steps
+pub mod Reading
+pub mod Decoding
+pub mod Along
+pub mod Pairs
