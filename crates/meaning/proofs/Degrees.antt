@@ -17,7 +17,7 @@ use Rattle.theory.proofs.Lemmas.{all-getD, all-map}
 use Rattle.meaning.specs.File.{symbolCount, pairCount, aritiesIn, pairsIn, tableIn}
 use Rattle.meaning.specs.Refusals.{first, rises, unordered, tableRows}
 use Rattle.meaning.specs.Calls.{gives, symbolDegree}
-use Rattle.meaning.specs.Further.{SymbolDegrees}
+use Rattle.meaning.specs.Tables.{SymbolDegrees}
 use Rattle.meaning.proofs.Sound.{Passed, passed, length-pairsIn, length-aritiesIn, sound}
 
 -- ---- rising pairs

@@ -11,7 +11,7 @@ use mathlib.Core.Bool.{Bool, true, false}
 use Rattle.theory.specs.Least.{leastBelow}
 use lib.ListN.{length, getD}
 use Rattle.theory.specs.Least.{All}
-use Rattle.meaning.specs.Refusals.{Refusal, refusal, Row, row, first, Given}
+use Rattle.meaning.specs.Refusals.{Refusal, refusal, Row, row, rowPlace, first, Given}
 use Rattle.meaning.specs.Calls.{refused, gives, unless, isTable, symbolDegree, headingDegree, matched, written, arityBack, pairBack}
 use Rattle.meaning.specs.Demands.{Exactly, Demand1}
 
@@ -97,11 +97,8 @@ append-none (row n (just i) ∷ xs) ys e = absurd (Option·some-ne-none (refusal
 append-none (row n none ∷ xs) ys e = append-none xs ys e
 
 -- no row holds
-abbrev pub placeOf : Row → Option ℕ
-placeOf (row n o) = o
-
 abbrev pub Silent : Row → Type 0
-Silent r = placeOf r ≡ none
+Silent r = rowPlace r ≡ none
 
 pub all-silent : (rows : List Row) → first rows ≡ none → All Silent rows
 all-silent [] e = tt

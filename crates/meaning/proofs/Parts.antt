@@ -22,7 +22,7 @@ use Rattle.meaning.specs.File.{tableIn}
 use Rattle.meaning.specs.Refusals.{Refusal, refusal, Row, row, first, faultOf, Given, tableRows, row6, row7}
 use Rattle.meaning.specs.Calls.{part, partTo, unlessPart, subtermRows, subterm, theFirst, theSecond, neither, unlessNearer, nearerRows, nearer}
 use Rattle.meaning.specs.Demands.{WritesPattern, Only}
-use Rattle.meaning.specs.Further.{IsTerm, Terms, subtermAt, subtermIn, SubtermIs, Subterms, NearerIs, Nearest}
+use Rattle.meaning.specs.Parts.{IsTerm, TermLists, subtermAt, subtermIn, SubtermIs, Subterms, NearerIs, Nearest}
 use Rattle.meaning.proofs.First.{first-given, given-first, all-silent, append-none}
 use Rattle.meaning.proofs.Sound.{sound}
 use Rattle.meaning.proofs.Trees.{whole6, whole7, one-pattern, one-term}
@@ -108,7 +108,7 @@ read-first n whole = ((λ e. refl), (λ e. refl))
 read-first n (faulty i) = ((λ e. absurd (Option·some-ne-none (refusal n i) e)), (λ e. let z : _≡_ {A = ℕ} 0 1 = cc in absurd (omega arith)))
 
 -- THEOREM: refusals 6 and 7, of a table that is not refused
-pub terms : (table : List ℕ) → first (tableRows table) ≡ none → Terms table
+pub terms : (table : List ℕ) → first (tableRows table) ≡ none → TermLists table
 unfolding row6 row7
 terms table e =
     let T = tableIn table in

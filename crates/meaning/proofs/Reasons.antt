@@ -24,7 +24,7 @@ use Rattle.meaning.specs.Refusals.{refusal, row, first, at0, row9, row10
 use Rattle.meaning.specs.Packing.{packedCount}
 use Rattle.meaning.specs.Calls.{refused, inputRows, searchRows, matchRows, matched, matchCall}
 use Rattle.meaning.specs.Demands.{Accepted}
-use Rattle.meaning.specs.Further.{Clashes, Reasons}
+use Rattle.meaning.specs.Matching.{Clashes, Reasons}
 use Rattle.meaning.proofs.First.{first-append, unless-refused}
 use Rattle.meaning.proofs.Matched.{Ready, ready, Ending, by9, by10, fine, match-ends}
 

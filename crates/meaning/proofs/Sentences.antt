@@ -28,7 +28,7 @@ use Rattle.meaning.specs.Packing.{order, packedSpans, packedSets, setsOf
 use Rattle.meaning.specs.Calls.{gives, degrees, zeros, facesIn, matchRows, matched, laterSpans, laterSets, matchCall}
 use Rattle.meaning.specs.Buffers.{firstPosition, positionCount, holds}
 use Rattle.meaning.specs.Demands.{Accepted}
-use Rattle.meaning.specs.Further.{SetsAndDegrees}
+use Rattle.meaning.specs.Matching.{SetsAndDegrees}
 use Rattle.meaning.proofs.First.{unless-gives}
 use Rattle.meaning.proofs.Packing.{set-at}
 use Rattle.meaning.proofs.Drawn.{Packed}

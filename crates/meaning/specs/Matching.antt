@@ -1,0 +1,56 @@
+-- What else is said of the match: why it is refused, what its sets hold, what it leaves in lent memory. Statements; the proofs are in
+-- proofs/Reasons, proofs/Sentences and proofs/Lengths.
+use mathlib.Core.Path.{_≡_}
+use mathlib.Core.Logic.{_↔_}
+use mathlib.Core.List.{List}
+use mathlib.Core.Bool.{true, false}
+use Prim.Native.Nat.{ℕ, _+_, _*_, _≤_, _<_}
+use lib.ListN.{length, getD}
+use Rattle.theory.specs.Tree.{Term, Pattern, stands}
+use Rattle.theory.specs.Least.{All}
+use Rattle.theory.specs.Table.{Table}
+use Rattle.theory.specs.Faces.{faces, facing}
+use Rattle.theory.specs.Match.{at, ClashAt}
+use Rattle.theory.specs.Verdict.{MeansFormless}
+use Rattle.theory.specs.Pairs.{Pair}
+use Rattle.meaning.specs.Limits.{setWords, setRoom, variableCount, spanWidth}
+use Rattle.meaning.specs.Packing.{packedCount}
+use Rattle.meaning.specs.Calls.{refused, gives, Degrees, zeros, facesIn, Matched, laterSpans, laterSets, laterOutput}
+use Rattle.meaning.specs.Buffers.{firstPosition, positionCount, holds}
+
+-- Refusals 9 to 11, of a match that is not refused by 1 to 8.
+-- 9: the place is an index of the pattern's list, that of the first clash.
+pub record Clashes (T : Table) (cut : ℕ) (p : Pattern) (h : Term) (pattern : List ℕ) (i : ℕ) : Type 0 where
+  pub clash : ClashAt T cut (faces p h) i
+  pub index : i < length pattern
+  pub node : getD pattern i 0 ≡ clash .pattern
+
+pub record Reasons (T : Table) (cut : ℕ) (p : Pattern) (h : Term) (pattern : List ℕ) (r : Matched) : Type 0 where
+  pub nine : (i : ℕ) → r .answer ≡ refused 9 i → Clashes T cut p h pattern i
+  pub ten : (v : ℕ) → r .answer ≡ refused 10 v → MeansFormless T cut p h v
+  pub never-eleven : (i : ℕ) → r .answer ≡ refused 11 i → ⊥
+
+-- Of a match that is answered: at each position of a variable the set has just those symbols that are near enough to the symbol at that
+-- position of every subterm that faces the variable; and how the degrees lie.
+pub record SetsAndDegrees (T : Table) (cut : ℕ) (p : Pattern) (h : Term) (r : Matched) (low high : ℕ) : Type 0 where
+  pub sets : (v : ℕ) → stands v p ≡ true → (k : ℕ) → k < positionCount (r .spans) v → (s : ℕ) → s < setRoom
+      → holds (r .sets) (firstPosition (r .spans) v + k) s ≡ true ↔ ((s < T .size) × All (λ t. cut ≤ T .deg s (at T t k)) (facing v (faces p h)))
+  pub cut-lowest : cut ≤ low
+  pub lowest-highest : low ≤ high
+  pub highest-top : high ≤ 1000
+  pub no-variables : ((v : ℕ) → stands v p ≡ false) → low ≡ high
+
+-- What a match leaves in the two buffers: what was lent, where its input or the room is refused; zeros, where the search is; and zeros after what
+-- was packed, where it is answered.
+pub record Leaves (table pattern heading : List ℕ) (cut : ℕ) (spans sets : List ℕ) (r : Matched) : Type 0 where
+  pub unchanged : (n place : ℕ) → r .answer ≡ refused n place → n ≤ 8 → (r .spans ≡ spans) × (r .sets ≡ sets)
+  pub cleared : (n place : ℕ) → r .answer ≡ refused n place → 8 < n → (r .spans ≡ zeros (length spans)) × (r .sets ≡ zeros (length sets))
+  pub other-spans : (d : Degrees) → r .answer ≡ gives d → (i : ℕ) → spanWidth * variableCount ≤ i → getD (r .spans) i 0 ≡ 0
+  pub other-sets : (d : Degrees) → r .answer ≡ gives d → (i : ℕ) → setWords * packedCount (facesIn table pattern heading) ≤ i
+      → getD (r .sets) i 0 ≡ 0
+
+-- Lent memory keeps its length, whatever is lent.
+pub record Lengths : Type 0 where
+  pub of-spans : (table pattern heading : List ℕ) (cut : ℕ) (spans sets : List ℕ) → length (laterSpans table pattern heading cut spans sets) ≡ length spans
+  pub of-sets : (table pattern heading : List ℕ) (cut : ℕ) (spans sets : List ℕ) → length (laterSets table pattern heading cut spans sets) ≡ length sets
+  pub of-output : (arities : List ℕ) (pairs : List Pair) (output : List ℕ) → length (laterOutput arities pairs output) ≡ length output

@@ -1,0 +1,116 @@
+-- What is said of tables: which files are tables, the degrees of their symbols, reading back and writing. Statements; the proofs are in
+-- proofs/Sound, proofs/Degrees and proofs/Writing.
+use mathlib.Core.Path.{_≡_}
+use mathlib.Core.Logic.{_↔_, _⊎_}
+use mathlib.Core.List.{List, _++_}
+use mathlib.Core.Bool.{false}
+use Prim.Native.Nat.{ℕ, suc, _+_, _*_, _≤_, _<_}
+use lib.ListN.{length, getD, take, drop}
+use Rattle.theory.specs.Least.{All}
+use Rattle.theory.specs.Table.{Lawful}
+use Rattle.theory.specs.Pairs.{Pair, pair, isPair}
+use Rattle.meaning.specs.File.{number, symbolCount, pairCount, aritiesOffset, pairsOffset, totalField, total, aritiesIn, pairsIn, tableIn}
+use Rattle.meaning.specs.Refusals.{SoundFile}
+use Rattle.meaning.specs.Calls.{Answer, refused, gives, symbolDegree, arityBack, pairBack, written, laterOutput}
+
+-- ---- which files are tables, said outright
+
+-- Symbol a's arity, and the three numbers of pair k, where they stand in the file.
+abbrev pub arityByte : List ℕ → ℕ → ℕ
+arityByte file a = getD file (10 + a) 0
+
+abbrev pub pairStart : List ℕ → ℕ → ℕ
+pairStart file k = 10 + symbolCount file + 6 * k
+
+abbrev pub lowerAt : List ℕ → ℕ → ℕ
+lowerAt file k = number file (pairStart file k)
+
+abbrev pub higherAt : List ℕ → ℕ → ℕ
+higherAt file k = number file (pairStart file k + 2)
+
+abbrev pub degreeAt : List ℕ → ℕ → ℕ
+degreeAt file k = number file (pairStart file k + 4)
+
+-- Pair k may be listed: two symbols of the table, the lower first, of equal arity, with a degree above 0.
+pub record ListedWell (file : List ℕ) (k : ℕ) : Type 0 where
+  pub lower-first : lowerAt file k < higherAt file k
+  pub in-table : higherAt file k < symbolCount file
+  pub equal-arities : arityByte file (lowerAt file k) ≡ arityByte file (higherAt file k)
+  pub above-zero : 1 ≤ degreeAt file k
+  pub at-most-top : degreeAt file k ≤ 1000
+
+-- Pair k stands before pair j: its lower symbol is lower, or that is the same and its higher one is lower.
+abbrev pub StandsBefore : List ℕ → ℕ → ℕ → Type 0
+StandsBefore file k j = (lowerAt file k < lowerAt file j) ⊎ ((lowerAt file k ≡ lowerAt file j) × (higherAt file k < higherAt file j))
+
+pub record TableFile (file : List ℕ) : Type 0 where
+  pub whole-header : 10 ≤ length file
+  pub some-symbol : 1 ≤ symbolCount file
+  pub few-symbols : symbolCount file ≤ 256
+  pub few-pairs : pairCount file ≤ 8192
+  pub arities-follow : aritiesOffset file ≡ 10
+  pub pairs-follow : pairsOffset file ≡ 10 + symbolCount file
+  pub total-is : totalField file ≡ 10 + symbolCount file + 6 * pairCount file
+  pub length-is : length file ≡ totalField file
+  pub arities : (a : ℕ) → a < symbolCount file → arityByte file a ≤ 8
+  pub pairs : (k : ℕ) → k < pairCount file → ListedWell file k
+  pub rising : (k : ℕ) → suc k < pairCount file → StandsBefore file k (suc k)
+
+-- A file is not refused exactly if it is a table.
+abbrev pub Recognised : Type 0
+Recognised = (file : List ℕ) → SoundFile file ↔ TableFile file
+
+-- ---- what a table that is not refused holds
+
+-- It is lawful, with at most 256 symbols: what is known of degrees in general holds for its symbols.
+pub record SoundTable (table : List ℕ) : Type 0 where
+  pub lawful : Lawful (tableIn table)
+  pub small : tableIn table .size ≤ 256
+
+-- The degree of two symbol numbers: 1000 of a symbol with itself, a listed pair's in either order, 0 of every other two, and 0 where one is
+-- no symbol, even of a number with itself.
+pub record SymbolDegrees (table : List ℕ) : Type 0 where
+  pub itself : (a : ℕ) → a < symbolCount table → symbolDegree table a a ≡ gives 1000
+  pub listed : (k l h d : ℕ) → k < pairCount table → getD (pairsIn table) k (pair 0 0 0) ≡ pair l h d
+      → (symbolDegree table l h ≡ gives d) × (symbolDegree table h l ≡ gives d)
+  pub others : (a b : ℕ) → (a ≡ b → ⊥) → ((k l h d : ℕ) → k < pairCount table → getD (pairsIn table) k (pair 0 0 0) ≡ pair l h d → isPair l h a b ≡ false)
+      → symbolDegree table a b ≡ gives 0
+  pub outside : (a b : ℕ) → (symbolCount table ≤ a) ⊎ (symbolCount table ≤ b) → symbolDegree table a b ≡ gives 0
+
+-- Reading back gives the bytes of the file at the symbol, at the pair; past the last one there is nothing to read.
+pub record ReadBack (table : List ℕ) : Type 0 where
+  pub arity : (a : ℕ) → a < symbolCount table → arityBack table a ≡ gives (arityByte table a)
+  pub no-symbol : (a : ℕ) → symbolCount table ≤ a → arityBack table a ≡ refused 14 0
+  pub pair : (k : ℕ) → k < pairCount table → pairBack table k ≡ gives (pair (lowerAt table k) (higherAt table k) (degreeAt table k))
+  pub no-pair : (k : ℕ) → pairCount table ≤ k → pairBack table k ≡ refused 14 0
+
+-- ---- writing
+
+abbrev pub Bytes : List ℕ → Type 0
+Bytes = All (λ b. b < 256)
+
+-- What the writer gives: its answer, and what the output holds later.
+pub record Wrote : Type 0 where
+  pub answer : Answer ℕ
+  pub output : List ℕ
+
+-- What is demanded of it: a refusal leaves the output; else the front of the output, as long as the number returned, is a table that reads
+-- back to the same arities and pairs, and the rest of the output stays.
+pub record Writes (arities : List ℕ) (pairs : List Pair) (output : List ℕ) (r : Wrote) : Type 0 where
+  pub refusal-leaves : (n place : ℕ) → r .answer ≡ refused n place → r .output ≡ output
+  pub returns : (n : ℕ) → r .answer ≡ gives n → n ≡ total (length arities) (length pairs)
+  pub is-bytes : (n : ℕ) → r .answer ≡ gives n → Bytes (take n (r .output))
+  pub is-table : (n : ℕ) → r .answer ≡ gives n → SoundFile (take n (r .output))
+  pub same-arities : (n : ℕ) → r .answer ≡ gives n → aritiesIn (take n (r .output)) ≡ arities
+  pub same-pairs : (n : ℕ) → r .answer ≡ gives n → pairsIn (take n (r .output)) ≡ pairs
+  pub rest-stays : (n : ℕ) → r .answer ≡ gives n → drop n (r .output) ≡ drop n output
+
+-- What was read from a table is taken by the writer, given room, and written as the table's own bytes.
+pub record WritesAgain (table output : List ℕ) : Type 0 where
+  pub taken : written (aritiesIn table) (pairsIn table) output ≡ gives (length table)
+  pub same-bytes : laterOutput (aritiesIn table) (pairsIn table) output ≡ table ++ drop (length table) output
+
+pub record RoundTrip : Type 0 where
+  pub read-written : (arities : List ℕ) (pairs : List Pair) (output : List ℕ)
+      → Writes arities pairs output (record { answer = written arities pairs output; output = laterOutput arities pairs output })
+  pub written-read : (table output : List ℕ) → Bytes table → SoundFile table → length table ≤ length output → WritesAgain table output
