@@ -33,7 +33,7 @@ pub all-of : {A : Type 0} (P : A → Type 0) (xs : List A) (d : A) → ((k : ℕ
 all-of P [] d h = tt
 all-of P (x ∷ xs) d h = (h 0 (omega arith), all-of P xs d (λ k l. h (suc k) (omega arith)))
 
-sound-pair : (arities : List ℕ) (p : Pair) → unsound arities p ≡ false → SoundPair arities p
+pub sound-pair : (arities : List ℕ) (p : Pair) → unsound arities p ≡ false → SoundPair arities p
 sound-pair arities (pair l h d) e =
     let a = or-false _ (outside 1 1000 d) e in
     let b = or-false _ (not (eqb (getD arities l 0) (getD arities h 0))) (a .0) in

@@ -1,0 +1,3 @@
+// The table file: whether bytes are one, and what it says of its symbols and pairs.
+pub mod number;
+pub mod rules;

@@ -1,0 +1,60 @@
+// The rules that arities and pairs have to keep, for a file that is read and for one that is to be written.
+ghost use mathlib.Core.Path.{_≡_};
+ghost use mathlib.Core.Bool.{_&&_, not};
+ghost use Prim.Native.Nat.{_+_, _*_, _<_};
+ghost use lib.Dec.{ltb};
+ghost use Rattle.theory.specs.Pairs.{pair};
+ghost use Rattle.meaning.specs.Refusals.{row, row3, unsound};
+ghost use Rattle.table.specs.Found.{placeIn};
+ghost use Rattle.table.specs.Keys.{keyOf};
+
+pub enum Place {
+    At(usize),
+    Nowhere,
+}
+
+// The first symbol whose arity is too high.
+pub fn high_arity(arities: &[u8]) -> Place
+    ensures { λ r. ⌜ row3 (now (arities .entry)) ≡ row 3 (placeIn r) ⌝ }
+{
+    let n = arities.len();
+    let mut k: usize = 0;
+    while k < n {
+        if arities[k] > 8 {
+            return Place::At(k);
+        }
+        k += 1;
+    }
+    Place::Nowhere
+}
+
+// Two symbols as one number, by which pairs rise.
+pub fn key(lower: u16, higher: u16) -> u32
+    ensures { λ r. ⌜ r ≡ keyOf lower higher ⌝ }
+{
+    lower as u32 * 65536 + higher as u32
+}
+
+// Whether a pair may be listed after one with the key `previous`; 0 stands before every pair.
+pub fn may_follow(arities: &[u8], previous: u32, lower: u16, higher: u16, degree: u16) -> bool
+    ensures { λ r. ⌜ r ≡ (not (unsound (now (arities .entry)) (pair lower higher degree)) && ltb previous (keyOf lower higher)) ⌝ }
+{
+    if lower >= higher {
+        return false;
+    }
+    let low = lower as usize;
+    let high = higher as usize;
+    if high >= arities.len() {
+        return false;
+    }
+    if arities[low] != arities[high] {
+        return false;
+    }
+    if degree < 1 {
+        return false;
+    }
+    if degree > 1000 {
+        return false;
+    }
+    previous < key(lower, higher)
+}
