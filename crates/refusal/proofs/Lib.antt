@@ -1,0 +1,2 @@
+-- Laws on refusals that other crates cite.
+pub mod One

@@ -1,0 +1,91 @@
+// Sets of symbols as words of bits, made, asked and combined by value.
+//
+// Every contract speaks of members only. That the words themselves follow from the members is `same-set` of proofs/Laws.
+ghost use mathlib.Core.Path.{_≡_};
+ghost use mathlib.Core.Bool.{true, false, _&&_, _||_};
+ghost use mathlib.Core.Logic.{_↔_};
+ghost use Prim.Native.Nat.{ℕ, _<_};
+ghost use lib.Dec.{eqb};
+ghost use Rattle.meaning.specs.Limits.{setRoom};
+ghost use Rattle.meaning.specs.Buffers.{member};
+
+// A set of symbols: the first word tells of the first symbols, from its lowest bit up, and each word goes on from the one before.
+#[repr(C)]
+pub struct SymbolSet {
+    pub words: [u64; SymbolSet::WORDS],
+}
+
+impl SymbolSet {
+    // How many words a set has.
+    pub const WORDS: usize = 4;
+
+    // How many symbols a word tells of.
+    pub const BITS: u16 = 64;
+
+    // The set of no symbol.
+    pub fn empty() -> SymbolSet
+        ensures { λ r. ⌜ ((k : ℕ) → member (r .words) k ≡ false) ⌝ }
+    {
+        SymbolSet {
+            words: [0u64; SymbolSet::WORDS],
+        }
+    }
+
+    // The set of symbol k alone.
+    pub fn of(k: u16) -> SymbolSet
+        requires { ⌜ k < setRoom ⌝ }
+        ensures { λ r. ⌜ ((j : ℕ) → member (r .words) j ≡ eqb j k) ⌝ }
+    {
+        let mut words = [0u64; SymbolSet::WORDS];
+        words[(k / SymbolSet::BITS) as usize] = 1u64 << (k % SymbolSet::BITS);
+        SymbolSet { words }
+    }
+
+    // Whether symbol k is in the set.
+    pub fn has(self, k: u16) -> bool
+        requires { ⌜ k < setRoom ⌝ }
+        ensures { λ r. ⌜ r ≡ member (self .words) k ⌝ }
+    {
+        let words = self.words;
+        (words[(k / SymbolSet::BITS) as usize] >> (k % SymbolSet::BITS)) % 2 == 1
+    }
+
+    // The symbols that are in both sets.
+    pub fn intersect(self, other: SymbolSet) -> SymbolSet
+        ensures { λ r. ⌜ ((k : ℕ) → member (r .words) k ≡ (member (self .words) k && member (other .words) k)) ⌝ }
+    {
+        let ours = self.words;
+        let theirs = other.words;
+        let mut words = [0u64; SymbolSet::WORDS];
+        for i in 0..SymbolSet::WORDS {
+            words[i] = ours[i] & theirs[i];
+        }
+        SymbolSet { words }
+    }
+
+    // The symbols that are in one set or the other.
+    pub fn join(self, other: SymbolSet) -> SymbolSet
+        ensures { λ r. ⌜ ((k : ℕ) → member (r .words) k ≡ (member (self .words) k || member (other .words) k)) ⌝ }
+    {
+        let ours = self.words;
+        let theirs = other.words;
+        let mut words = [0u64; SymbolSet::WORDS];
+        for i in 0..SymbolSet::WORDS {
+            words[i] = ours[i] | theirs[i];
+        }
+        SymbolSet { words }
+    }
+
+    // Whether the set has no symbol.
+    pub fn is_empty(self) -> bool
+        ensures { λ r. ⌜ (r ≡ true) ↔ ((k : ℕ) → member (self .words) k ≡ false) ⌝ }
+    {
+        let words = self.words;
+        for at in 0..SymbolSet::WORDS {
+            if words[at] != 0 {
+                return false;
+            }
+        }
+        true
+    }
+}
