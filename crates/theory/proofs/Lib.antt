@@ -19,4 +19,6 @@ pub mod Steps
 pub mod Reading
 pub mod Decoding
 pub mod Along
+pub mod Gathered
+pub mod Noted
 pub mod Pairs

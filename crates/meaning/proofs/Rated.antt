@@ -1,0 +1,109 @@
+-- The degrees of a match as loops compute them: the least that the pattern's symbols bring, and the least that its variables bring, each
+-- variable once. A variable brings the same wherever it stands, so that the order's numbers bring what all the nodes do.
+use mathlib.Core.Path.{_≡_, refl, ap}
+use mathlib.Core.List.{List, [], _∷_, _++_}
+use mathlib.Core.Bool.{Bool, true, false, cond}
+use Prim.Native.Nat.{ℕ, zero, suc, _+_, _≤_, min, max}
+use native.Mathlib.Numerals.{add-one}
+use native.Mathlib.Omega.{arith}
+use lib.Dec.{eqb}
+use borrow.Author.Tests.{eqb-true}
+use Rattle.theory.specs.Tree.{Term}
+use Rattle.theory.specs.Table.{Table}
+use Rattle.theory.specs.Least.{least, lowest, highest}
+use Rattle.theory.specs.Faces.{Face, meets, binds, facing}
+use Rattle.theory.specs.Match.{positions, shared, inSet, lowestAt, highestAt, brings, lowestOf, highestOf}
+use Rattle.theory.proofs.Lemmas.{least-top, least-append}
+use Rattle.meaning.specs.Packing.{variables, without, firsts, order}
+
+-- what a node brings as a symbol: a variable brings nothing to the least
+abbrev pub symbolWorth : Table → Face → ℕ
+symbolWorth T (meets f g) = T .deg f g
+symbolWorth T (binds v t) = 1000
+
+-- what a variable brings where its positions are rated so
+abbrev pub variableWorth : (List Term → ℕ → ℕ) → List Face → ℕ → ℕ
+variableWorth rate fs v = lowest (positions (facing v fs)) (rate (facing v fs))
+
+-- ---- one more
+
+module _ {A : Type 0} (f : A → ℕ) where
+  -- LAW: the least, with one more at the end
+  pub least-last : (xs : List A) (x : A) → least f (xs ++ (x ∷ [])) ≡ min (least f xs) (f x)
+  least-last xs x = omega (arith, least-append f xs (x ∷ []), least-top f xs)
+
+-- LAW: a variable's node leaves what the symbols bring
+pub symbols-variable : (T : Table) (fs : List Face) (v : ℕ) (t : Term) → least (symbolWorth T) (fs ++ (binds v t ∷ [])) ≡ least (symbolWorth T) fs
+symbols-variable T fs v t = omega (arith, least-last (symbolWorth T) fs (binds v t), least-top (symbolWorth T) fs)
+
+-- LAW: the least and the most, with one more number
+pub lowest-last : (n : ℕ) (f : ℕ → ℕ) → lowest (n + 1) f ≡ min (lowest n f) (f n)
+lowest-last n f = rw add-one (omega arith)
+
+pub highest-last : (n : ℕ) (f : ℕ → ℕ) → highest (n + 1) f ≡ max (highest n f) (f n)
+highest-last n f = rw add-one (omega arith)
+
+-- ---- degrees are at most 1000
+
+pub lowest-top : (n : ℕ) (f : ℕ → ℕ) → lowest n f ≤ 1000
+lowest-top zero f = omega arith
+lowest-top (suc n) f = omega (arith, lowest-top n f)
+
+pub highest-top : (n : ℕ) (f : ℕ → ℕ) → ((k : ℕ) → f k ≤ 1000) → highest n f ≤ 1000
+highest-top zero f h = omega arith
+highest-top (suc n) f h = omega (arith, h n, highest-top n f h)
+
+pub variableWorth-top : (rate : List Term → ℕ → ℕ) (fs : List Face) (v : ℕ) → variableWorth rate fs v ≤ 1000
+variableWorth-top rate fs v = lowest-top (positions (facing v fs)) (rate (facing v fs))
+
+module _ (T : Table) (c : ℕ) where
+  pub lowestAt-top : (ts : List Term) (k : ℕ) → lowestAt T c ts k ≤ 1000
+  lowestAt-top ts k = lowest-top (T .size) _
+
+  pub highestAt-top : (ts : List Term) (k : ℕ) → highestAt T c ts k ≤ 1000
+  highestAt-top ts k = highest-top (T .size) _ (λ s. go s (inSet T c ts k s))
+    where
+      go : (s : ℕ) (b : Bool) → cond b (shared T ts k s) 0 ≤ 1000
+      go s true = least-top _ ts
+      go s false = omega arith
+
+  pub lowestOf-top : (fs : List Face) → lowestOf T c fs ≤ 1000
+  lowestOf-top fs = least-top _ fs
+
+  pub highestOf-top : (fs : List Face) → highestOf T c fs ≤ 1000
+  highestOf-top fs = least-top _ fs
+
+-- ---- each variable once
+
+module _ (f : ℕ → ℕ) where
+  -- next to v's own, v may be left out
+  least-without : (v : ℕ) (xs : List ℕ) → min (f v) (least f (without v xs)) ≡ min (f v) (least f xs)
+  least-without v [] = refl
+  least-without v (x ∷ xs) = go (eqb v x) refl (least-without v xs)
+    where
+      go : (b : Bool) → eqb v x ≡ b → min (f v) (least f (without v xs)) ≡ min (f v) (least f xs)
+          → min (f v) (least f (cond b (without v xs) (x ∷ without v xs))) ≡ min (f v) (min (f x) (least f xs))
+      go true q e = omega (arith, ap f (eqb-true v x q))
+      go false q e = omega arith
+
+  least-firsts : (xs : List ℕ) → least f (firsts xs) ≡ least f xs
+  least-firsts [] = refl
+  least-firsts (x ∷ xs) = omega (arith, least-without x (firsts xs), least-firsts xs)
+
+module _ (T : Table) (rate : List Term → ℕ → ℕ) (fs : List Face) where
+  -- symbols and variables apart, over any of the nodes
+  least-apart : (xs : List Face) → least (brings T rate fs) xs ≡ min (least (symbolWorth T) xs) (least (variableWorth rate fs) (variables xs))
+  least-apart [] = refl
+  least-apart (meets f g ∷ xs) = omega (arith, least-apart xs)
+  least-apart (binds v t ∷ xs) = omega (arith, least-apart xs, least-top (symbolWorth T) xs)
+
+  -- LAW: the least that a node brings
+  pub least-brings : least (brings T rate fs) fs ≡ min (least (symbolWorth T) fs) (least (variableWorth rate fs) (order fs))
+  least-brings = omega (arith, least-apart fs, least-firsts (variableWorth rate fs) (variables fs))
+
+-- LAW: the lowest and the highest degree of a match
+pub lowestOf-apart : (T : Table) (c : ℕ) (fs : List Face) → lowestOf T c fs ≡ min (least (symbolWorth T) fs) (least (variableWorth (lowestAt T c) fs) (order fs))
+lowestOf-apart T c fs = least-brings T (lowestAt T c) fs
+
+pub highestOf-apart : (T : Table) (c : ℕ) (fs : List Face) → highestOf T c fs ≡ min (least (symbolWorth T) fs) (least (variableWorth (highestAt T c) fs) (order fs))
+highestOf-apart T c fs = least-brings T (highestAt T c) fs
