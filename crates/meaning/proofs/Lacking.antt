@@ -23,6 +23,7 @@ use Rattle.theory.proofs.Matchers.{Bound, standing, none-clear}
 use Rattle.theory.proofs.Present.{present}
 use Rattle.meaning.specs.Limits.{variableCount}
 use Rattle.meaning.specs.Packing.{variables, without, firsts, order, among}
+use Rattle.meaning.specs.Search.{worst, unformed}
 use Rattle.meaning.proofs.First.{least-on, least-at}
 use Rattle.meaning.proofs.Packing.{order-among}
 
@@ -71,11 +72,6 @@ or-here false b e = e
 none-below : (n : ℕ) (b : ℕ → Bool) → ((v : ℕ) → v < n → b v ≡ false) → leastBelow n b ≡ none
 none-below zero b h = refl
 none-below (suc n) b h = least-on b n (none-below n b (λ v l. h v (omega arith))) (h n (omega arith))
-
--- the least bad number of a list, as many as there are variables if none below that is bad
-abbrev pub worst : (ℕ → Bool) → List ℕ → ℕ
-worst bad [] = variableCount
-worst bad (v ∷ vs) = min (cond (bad v) v variableCount) (worst bad vs)
 
 module _ (bad : ℕ → Bool) where
   pub worst-top : (vs : List ℕ) → worst bad vs ≤ variableCount
@@ -136,11 +132,6 @@ module _ (bad : ℕ → Bool) where
         (is (worst bad vs) ∙ and-true (among (worst bad vs) vs) (bad (worst bad vs)) (w .0) (w .1)) l
 
 -- ---- refusal 10
-
-module _ (T : Table) (c : ℕ) (fs : List Face) where
-  -- the variable has no form
-  abbrev pub unformed : ℕ → Bool
-  unformed v = not (formed T c (facing v fs))
 
 -- nothing clashes
 pub record Unclashed (T : Table) (c : ℕ) (p : Pattern) (h : Term) : Type 0 where

@@ -15,15 +15,7 @@ use Rattle.theory.specs.Faces.{Face, meets, binds, facing}
 use Rattle.theory.specs.Match.{positions, shared, inSet, lowestAt, highestAt, brings, lowestOf, highestOf}
 use Rattle.theory.proofs.Lemmas.{least-top, least-append}
 use Rattle.meaning.specs.Packing.{variables, without, firsts, order}
-
--- what a node brings as a symbol: a variable brings nothing to the least
-abbrev pub symbolWorth : Table → Face → ℕ
-symbolWorth T (meets f g) = T .deg f g
-symbolWorth T (binds v t) = 1000
-
--- what a variable brings where its positions are rated so
-abbrev pub variableWorth : (List Term → ℕ → ℕ) → List Face → ℕ → ℕ
-variableWorth rate fs v = lowest (positions (facing v fs)) (rate (facing v fs))
+use Rattle.meaning.specs.Search.{symbolWorth, variableWorth}
 
 -- ---- one more
 

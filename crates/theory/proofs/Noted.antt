@@ -2,31 +2,17 @@
 -- many nodes it has, at the node's index in two lists. A note once written stays, for later notes are at later indices.
 use mathlib.Core.Path.{_≡_, refl, subst}
 use mathlib.Core.List.{List, [], _∷_, _++_}
-use Prim.Native.Nat.{ℕ, _+_, _≤_, _<_}
+use Prim.Native.Nat.{ℕ, _<_}
 use native.Mathlib.Nat.{not-suc-le-zero}
 use native.Mathlib.Decide.{decLt}
 use native.Mathlib.Omega.{arith}
-use lib.ListN.{length, getD, set, take, drop, length-append, List·getD-append}
+use lib.ListN.{length, getD, set, length-append, List·getD-append}
 use lib.Seq.{getD-append-seam, getD-set-same, getD-set-other}
-use Rattle.theory.specs.Tree.{Term, enc}
+use Rattle.theory.specs.Tree.{Term}
 use Rattle.theory.specs.Table.{Table}
 use Rattle.theory.specs.Faces.{Face, meets, binds}
-use Rattle.theory.specs.Match.{size}
+use Rattle.theory.specs.Stands.{StandsAt, Note, Noted}
 use Rattle.theory.proofs.Gathered.{Gathers}
-
--- t stands in ys from index start on, n nodes long
-pub record StandsAt (ys : List ℕ) (start n : ℕ) (t : Term) : Type 0 where
-  pub many : n ≡ size t
-  pub inside : start + size t ≤ length ys
-  pub here : take (size t) (drop start ys) ≡ enc t
-
-abbrev pub Note : List ℕ → ℕ → ℕ → Face → Type 0
-Note ys start n (meets f g) = Unit {0}
-Note ys start n (binds v t) = StandsAt ys start n t
-
--- every variable's node among these faces has its note
-pub record Noted (ys starts counts : List ℕ) (fs : List Face) : Type 0 where
-  pub note : (k : ℕ) → k < length fs → Note ys (getD starts k 0) (getD counts k 0) (getD fs k (meets 0 0))
 
 pub noted-start : (ys starts counts : List ℕ) → Noted ys starts counts []
 noted-start ys starts counts = record { note = λ k l. absurd (not-suc-le-zero l) }

@@ -7,4 +7,5 @@ pub mod Match
 pub mod Verdict
 pub mod Read
 pub mod Decode
+pub mod Stands
 pub mod Pairs
