@@ -1,2 +1,4 @@
 -- Laws that the proofs of functions cite, here and in the crates above.
 pub mod Rising
+pub mod Pairs
+pub mod Rows

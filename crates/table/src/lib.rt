@@ -1,3 +1,4 @@
 // The table file: whether bytes are one, and what it says of its symbols and pairs.
+pub mod check;
 pub mod number;
 pub mod rules;

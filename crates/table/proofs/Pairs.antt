@@ -1,0 +1,73 @@
+-- Where a file's lists stand in its bytes: the symbols' arities after the header, then the pairs, six bytes each. So the rules for pairs can
+-- be tested on the numbers as they are read.
+use mathlib.Core.Path.{_≡_, ap, subst, _∙_}
+use mathlib.Core.List.{List}
+use mathlib.Core.Bool.{_&&_, not}
+use Prim.Native.Nat.{ℕ, zero, suc, _+_, _-_, _*_, _≤_, _<_}
+use native.Mathlib.Nat.{not-suc-le-zero}
+use native.Mathlib.Numerals.{add-one}
+use native.Mathlib.Omega.{arith}
+use lib.Dec.{ltb}
+use lib.ListN.{length, getD, take, drop, length-take, length-drop}
+use lib.Seq.{getD-take, getD-drop}
+use Rattle.theory.specs.Pairs.{pair}
+use Rattle.meaning.specs.File.{number, symbolCount, pairCount, pairAt, pairsAt, aritiesIn, pairsFrom, pairsIn}
+use Rattle.meaning.specs.Tables.{arityByte, pairStart}
+use Rattle.meaning.specs.Refusals.{unsound, badPair}
+use Rattle.table.specs.Keys.{pairKey, keyBefore}
+use Rattle.table.proofs.Rising.{Short, good-pair}
+
+-- pair k of n that begin at byte i
+pair-from : (file : List ℕ) (n i k : ℕ) → k < n → getD (pairsFrom file i n) k (pair 0 0 0) ≡ pairAt file (i + 6 * k)
+pair-from file zero i k l = absurd (not-suc-le-zero l)
+pair-from file (suc n) i zero l = let e : i ≡ i + 6 * 0 = omega arith in ap (pairAt file) e
+pair-from file (suc n) i (suc k) l =
+    let e : i + 6 + 6 * k ≡ i + 6 * suc k = omega arith in
+    pair-from file n (i + 6) k (omega arith) ∙ ap (pairAt file) e
+
+-- LAW: pair k of a file is the one whose six bytes begin there
+pub pair-in : (file : List ℕ) (k : ℕ) → k < pairCount file → getD (pairsIn file) k (pair 0 0 0) ≡ pairAt file (pairStart file k)
+unfolding pairsIn
+pair-in file k l = pair-from file (pairCount file) (pairsAt (symbolCount file)) k l
+
+-- LAW: symbol a's arity is its byte after the header
+pub arity-in : (file : List ℕ) (a : ℕ) → a < symbolCount file → getD (aritiesIn file) a 0 ≡ arityByte file a
+unfolding aritiesIn
+arity-in file a l = getD-take (symbolCount file) (drop 10 file) a 0 l ∙ getD-drop 10 file a 0
+
+-- LAW: the part of the file that is lent as its arities
+pub arities-part : (file : List ℕ) (s : ℕ) → s ≡ symbolCount file → take (10 + s - 10) (drop 10 file) ≡ aritiesIn file
+unfolding aritiesIn
+arities-part file s e = let n : 10 + s - 10 ≡ symbolCount file = omega arith in ap (λ n. take n (drop 10 file)) n
+
+-- LAW: a file with room for as many arities as it has symbols has that many
+pub length-arities : (file : List ℕ) → pairsAt (symbolCount file) ≤ length file → length (aritiesIn file) ≡ symbolCount file
+unfolding aritiesIn
+length-arities file l = omega (arith, length-take (symbolCount file) (drop 10 file), length-drop 10 file)
+
+-- LAW: the key that the pair after pair k has to exceed
+pub key-next : (file : List ℕ) (k : ℕ) → k < pairCount file → keyBefore (pairsIn file) (k + 1) ≡ pairKey (pairAt file (pairStart file k))
+key-next file k l = rw (add-one k) (ap pairKey (pair-in file k l))
+
+module _ (file : List ℕ) (bytes : (i : ℕ) → getD file i 0 < 256) where
+  -- LAW: a number of two bytes
+  pub number-small : (i : ℕ) → number file i < 65536
+  number-small i = omega (arith, bytes i, bytes (i + 1))
+
+  short-from : (n i j : ℕ) → Short (getD (pairsFrom file i n) j (pair 0 0 0))
+  short-from zero i j = omega arith
+  short-from (suc n) i zero = number-small (i + 2)
+  short-from (suc n) i (suc j) = short-from n (i + 6) j
+
+  short-in : (j : ℕ) → Short (getD (pairsIn file) j (pair 0 0 0))
+  unfolding pairsIn
+  short-in = short-from (pairCount file) (pairsAt (symbolCount file))
+
+  -- LAW: pair k is good exactly if what is read at its bytes may be listed and has a key above the one before it
+  pub good-read : (k : ℕ) → k < pairCount file
+      → (not (unsound (aritiesIn file) (pairAt file (pairStart file k))) && ltb (keyBefore (pairsIn file) k) (pairKey (pairAt file (pairStart file k))))
+      ≡ not (badPair (aritiesIn file) (pairsIn file) k)
+  good-read k l =
+      subst (λ p. (not (unsound (aritiesIn file) p) && ltb (keyBefore (pairsIn file) k) (pairKey p)) ≡ not (badPair (aritiesIn file) (pairsIn file) k))
+      (pair-in file k l)
+      (good-pair (aritiesIn file) (pairsIn file) k short-in)
