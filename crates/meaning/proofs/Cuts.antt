@@ -1,4 +1,5 @@
--- Demand 3: what a second cut, not lower than the first, leaves of a match.
+-- Demand 3: what a second cut, not lower than the first, leaves of a match. Where variables are packed does not depend on the cut, each set
+-- at the higher one is part of the set at the lower, and the rest is the theory's, of the two trees.
 use mathlib.Core.Path.{_≡_, sym as inv, _∙_}
 use mathlib.Core.Logic.{_↔_}
 use mathlib.Core.List.{List}
@@ -14,6 +15,7 @@ use Rattle.theory.specs.Match.{lowestOf, highestOf, Matches}
 use Rattle.theory.specs.Decode.{patternOf, termOf}
 use Rattle.theory.proofs.Decoding.{fine-over}
 use Rattle.theory.proofs.Theorems.{answered, matchers-cut, answered-cut, highest-cut, sets-cut}
+use Rattle.meaning.specs.Limits.{setRoom, variableCount, spanWidth}
 use Rattle.meaning.specs.File.{tableIn}
 use Rattle.meaning.specs.Refusals.{first}
 use Rattle.meaning.specs.Packing.{order, packedSpans, packedSets, setsOf}
@@ -72,13 +74,13 @@ module _ (table pattern heading : List ℕ) (cut₁ : ℕ) (spans₁ sets₁ : L
 
   -- what the buffers say where neither is refused
   module _ (e₁ : first (matchRows table pattern heading cut₁ spans₁ sets₁) ≡ none) (e₂ : first (matchRows table pattern heading cut₂ spans₂ sets₂) ≡ none) where
-    spans-same : (v j : ℕ) → v < 32 → j < 2
-        → getD (laterSpans table pattern heading cut₂ spans₂ sets₂) (2 * v + j) 0 ≡ getD (laterSpans table pattern heading cut₁ spans₁ sets₁) (2 * v + j) 0
+    spans-same : (v j : ℕ) → v < variableCount → j < spanWidth
+        → getD (laterSpans table pattern heading cut₂ spans₂ sets₂) (spanWidth * v + j) 0 ≡ getD (laterSpans table pattern heading cut₁ spans₁ sets₁) (spanWidth * v + j) 0
     spans-same v j l m =
         rw (spans-are table pattern heading cut₂ spans₂ sets₂ e₂, spans-are table pattern heading cut₁ spans₁ sets₁ e₁)
         (span-at fs (zeros (length spans₂ - length (packedSpans fs))) v j l m ∙ inv (span-at fs (zeros (length spans₁ - length (packedSpans fs))) v j l m))
 
-    sets-narrow : (position symbol : ℕ) → symbol < 256
+    sets-narrow : (position symbol : ℕ) → symbol < setRoom
         → holds (laterSets table pattern heading cut₂ spans₂ sets₂) position symbol ≡ true
         → holds (laterSets table pattern heading cut₁ spans₁ sets₁) position symbol ≡ true
     unfolding packedSets
@@ -108,9 +110,9 @@ module _ (table pattern heading : List ℕ) (cut₁ : ℕ) (spans₁ sets₁ : L
         same-highest = inv (same-degrees _ _ _ _ (g .1)) ∙ highest-cut T L p h op oh cut₁ cut₂ (r₁ .positive) up (r₂ .cut-top) b₂;
       }
     where
-      plain : (v : ℕ) → getD (laterSpans table pattern heading cut₂ spans₂ sets₂) (2 * v + 0) 0 ≡ getD (laterSpans table pattern heading cut₁ spans₁ sets₁) (2 * v + 0) 0
-          → getD (laterSpans table pattern heading cut₂ spans₂ sets₂) (2 * v) 0 ≡ getD (laterSpans table pattern heading cut₁ spans₁ sets₁) (2 * v) 0
-      plain v q = let i : 2 * v + 0 ≡ 2 * v = omega arith in rw i at q
+      plain : (v : ℕ) → getD (laterSpans table pattern heading cut₂ spans₂ sets₂) (spanWidth * v + 0) 0 ≡ getD (laterSpans table pattern heading cut₁ spans₁ sets₁) (spanWidth * v + 0) 0
+          → getD (laterSpans table pattern heading cut₂ spans₂ sets₂) (spanWidth * v) 0 ≡ getD (laterSpans table pattern heading cut₁ spans₁ sets₁) (spanWidth * v) 0
+      plain v q = let i : spanWidth * v + 0 ≡ spanWidth * v = omega arith in rw i at q
 
   answers-second : (low₁ high₁ : ℕ) → matched table pattern heading cut₁ spans₁ sets₁ ≡ gives (degrees low₁ high₁) → cut₂ ≤ high₁
       → (d : Degrees) × (matched table pattern heading cut₂ spans₂ sets₂ ≡ gives d)

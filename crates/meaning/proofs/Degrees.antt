@@ -1,61 +1,25 @@
--- The degree of two symbols: a listed pair has its listed degree, in either order, since pairs rise.
+-- The degrees of symbols: what is listed of two symbols, whichever comes first, is found, and nothing else is, because pairs that rise never
+-- repeat.
 use mathlib.Core.Path.{_≡_, refl, ap, _∙_, subst}
 use mathlib.Core.Logic.{_⊎_, inl, inr}
 use mathlib.Core.List.{List, [], _∷_}
-use mathlib.Core.Bool.{Bool, true, false, _&&_, _||_, cond, false≢true}
-use mathlib.Core.Option.{none}
+use mathlib.Core.Bool.{Bool, true, false, _&&_, _||_, cond}
 use Prim.Native.Nat.{ℕ, zero, suc, _≤_, _<_}
 use native.Mathlib.Nat.{not-suc-le-zero}
 use native.Mathlib.Omega.{arith}
 use lib.Dec.{eqb, ltb}
 use lib.ListN.{length, getD}
-use borrow.Author.Tests.{ltb-true, lt-ltb, le-ltb, eqb-true, eq-eqb, ne-eqb, not-false}
+use borrow.Author.Tests.{lt-ltb, le-ltb, eqb-true, eq-eqb, ne-eqb}
 use Rattle.theory.specs.Least.{All}
 use Rattle.theory.specs.Table.{Lawful}
 use Rattle.theory.specs.Pairs.{Pair, pair, isPair, listed, SoundPair}
-use Rattle.theory.proofs.Lemmas.{all-getD, all-map}
+use Rattle.theory.proofs.Lemmas.{all-getD}
 use Rattle.meaning.specs.File.{symbolCount, pairCount, aritiesIn, pairsIn, tableIn}
-use Rattle.meaning.specs.Refusals.{first, rises, unordered, tableRows}
+use Rattle.meaning.specs.Refusals.{SoundFile}
 use Rattle.meaning.specs.Calls.{gives, symbolDegree}
 use Rattle.meaning.specs.Tables.{SymbolDegrees}
 use Rattle.meaning.proofs.Sound.{Passed, passed, length-pairsIn, length-aritiesIn, sound}
-
--- ---- rising pairs
-
--- b stands after a
-abbrev After : Pair → Pair → Type 0
-After (pair l h d) (pair l′ h′ d′) = (l < l′) ⊎ ((l ≡ l′) × (h < h′))
-
-rises-after : (a b : Pair) → rises a b ≡ true → After a b
-rises-after (pair l h d) (pair l′ h′ d′) e = go (ltb l l′) refl (eqb l l′) refl (ltb h h′) refl e
-  where
-    go : (p : Bool) → ltb l l′ ≡ p → (q : Bool) → eqb l l′ ≡ q → (r : Bool) → ltb h h′ ≡ r → (p || (q && r)) ≡ true → (l < l′) ⊎ ((l ≡ l′) × (h < h′))
-    go true p q′ q r′ r e = inl (ltb-true l l′ p)
-    go false p true q true r e = inr (eqb-true l l′ q, ltb-true h h′ r)
-    go false p true q false r e = absurd (false≢true e)
-    go false p false q r′ r e = absurd (false≢true e)
-
-after-on : (a b c : Pair) → After a b → After b c → After a c
-after-on (pair l h d) (pair l′ h′ d′) (pair l″ h″ d″) (inl p) (inl q) = inl (omega arith)
-after-on (pair l h d) (pair l′ h′ d′) (pair l″ h″ d″) (inl p) (inr q) = inl (omega (arith, q .0))
-after-on (pair l h d) (pair l′ h′ d′) (pair l″ h″ d″) (inr p) (inl q) = inl (omega (arith, p .0))
-after-on (pair l h d) (pair l′ h′ d′) (pair l″ h″ d″) (inr p) (inr q) = inr (p .0 ∙ q .0, omega (arith, p .1, q .1))
-
-abbrev Sorted : List Pair → Type 0
-Sorted [] = Unit {0}
-Sorted (p ∷ ps) = All (After p) ps × Sorted ps
-
-sorted : (ps : List Pair) → ((k : ℕ) → k < length ps → unordered ps k ≡ false) → Sorted ps
-sorted [] h = tt
-sorted (a ∷ []) h = (tt, tt)
-sorted (a ∷ (b ∷ ps)) h =
-    let s = sorted (b ∷ ps) (λ k l. next k l) in
-    let r : After a b = rises-after a b (not-false (rises a b) (h 1 (omega arith))) in
-    ((r, all-map ps (λ c q. after-on a b c r q) (s .0)), s)
-  where
-    next : (k : ℕ) → k < length (b ∷ ps) → unordered (b ∷ ps) k ≡ false
-    next zero l = refl
-    next (suc k) l = h (suc (suc k)) (omega arith)
+use Rattle.meaning.proofs.Rising.{After, Sorted, sorted}
 
 -- ---- what is listed
 
@@ -90,9 +54,9 @@ listed-none : (ps : List Pair) (a b : ℕ) → ((k l h d : ℕ) → k < length p
 listed-none [] a b n = refl
 listed-none (pair l h d ∷ ps) a b n = rw (n 0 l h d (omega arith) refl) (listed-none ps a b (λ k l h d m e. n (suc k) l h d (omega arith) e))
 
--- ---- THEOREM: the degrees of symbols in a table that is not refused
+-- ---- the degrees of symbols in a table that is not refused
 
-module _ (table : List ℕ) (e : first (tableRows table) ≡ none) where
+module _ (table : List ℕ) (e : SoundFile table) where
   q : Passed table
   q = passed table e
 
@@ -130,6 +94,7 @@ module _ (table : List ℕ) (e : first (tableRows table) ≡ none) where
       zero-of true = refl
       zero-of false = refl
 
+  -- THEOREM
   pub symbol-degrees : SymbolDegrees table
   unfolding tableIn
   symbol-degrees =

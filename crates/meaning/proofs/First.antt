@@ -1,4 +1,5 @@
--- The law of `first`: a refusal is given exactly if its row holds there and no row before it holds. So each call refuses exactly by its rows.
+-- The law of `first`, which passes over rows until one holds: a refusal is given exactly if its row holds there and no row before it holds.
+-- So each call refuses exactly by its rows.
 use mathlib.Core.Path.{_≡_, refl, sym as inv, ap}
 use mathlib.Core.Logic.{_↔_}
 use mathlib.Core.List.{List, [], _∷_, _++_}
@@ -8,12 +9,11 @@ use native.Mathlib.Nat.{not-suc-le-zero}
 use native.Mathlib.Omega.{arith}
 use native.Mathlib.Decide.{decLt}
 use mathlib.Core.Bool.{Bool, true, false}
-use Rattle.theory.specs.Least.{leastBelow}
+use Rattle.theory.specs.Least.{leastBelow, All}
 use lib.ListN.{length, getD}
-use Rattle.theory.specs.Least.{All}
-use Rattle.meaning.specs.Refusals.{Refusal, refusal, Row, row, rowPlace, first, Given}
-use Rattle.meaning.specs.Calls.{refused, gives, unless, isTable, symbolDegree, headingDegree, matched, written, arityBack, pairBack}
-use Rattle.meaning.specs.Demands.{Exactly, Demand1}
+use Rattle.meaning.specs.Refusals.{Refusal, refusal, Row, row, rowPlace, first, Given, row1-short, row1-offsets, row2, row3, row4, row5, row6, row7, row8, row8-output, row9, row10, row11, row14, tableRows}
+use Rattle.meaning.specs.Calls.{refused, gives, unless, isTable, symbolDegree, degreeRows, headingDegree, subtermRows, inputRows, searchRows, matchRows, matched, writerRows, written, backRows, arityBack, pairBack}
+use Rattle.meaning.specs.Demands.{Exactly, Demand1, Order}
 
 -- a row more in front, which does not hold
 more : (m : ℕ) (rows : List Row) (n place : ℕ) → Given rows n place → Given (row m none ∷ rows) n place
@@ -84,6 +84,19 @@ demand1 =
       pair-back = λ table k. exactly _ _;
     }
 
+-- THEOREM: the rows of each call stand in their order, whatever is lent
+pub order : Order
+unfolding degreeRows subtermRows matchRows inputRows searchRows writerRows backRows tableRows row1-short row1-offsets row2 row3 row4 row5 row6 row7 row8 row8-output row9 row10 row11 row14
+order =
+    record {
+      is-table = λ table. refl;
+      heading-degree = λ table one two. refl;
+      subterm = λ table term. refl;
+      match = λ table pattern heading cut spans sets. refl;
+      writer = λ arities pairs output. refl;
+      back = λ table index count. refl;
+    }
+
 -- ---- rows in two parts
 
 pub first-append : (xs ys : List Row) → first xs ≡ none → first (xs ++ ys) ≡ first ys
@@ -115,6 +128,11 @@ silent-first (row n (just i) ∷ rows) h = absurd (Option·some-ne-none i (h .0)
 -- none below k, and k does not pass
 pub least-on : (b : ℕ → Bool) (k : ℕ) → leastBelow k b ≡ none → b k ≡ false → leastBelow (suc k) b ≡ none
 least-on b k e q = rw (e, q)
+
+-- none below n
+pub none-below : (b : ℕ → Bool) (n : ℕ) → ((k : ℕ) → k < n → b k ≡ false) → leastBelow n b ≡ none
+none-below b zero h = refl
+none-below b (suc n) h = least-on b n (none-below b n (λ k l. h k (omega arith))) (h n (omega arith))
 
 -- none below k, and k passes
 pub least-at : (b : ℕ → Bool) (k n : ℕ) → leastBelow k b ≡ none → b k ≡ true → k < n → leastBelow n b ≡ just k

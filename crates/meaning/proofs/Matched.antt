@@ -1,4 +1,5 @@
--- Demand 2 of the match: it says 9 or 10 exactly if no matcher exists; otherwise the matchers are exactly what is drawn from the buffers.
+-- Demand 2 of the match: it says 9 or 10 exactly if no matcher exists; otherwise the matchers are exactly what is drawn from the buffers. The
+-- rows of the search are the theory's verdict on the two trees, 11 is never given, and the buffers hold the sets of what faces each variable.
 use mathlib.Core.Path.{_≡_, refl, sym as inv, ap, _∙_}
 use mathlib.Core.Logic.{_↔_, inl, inr, ⊎-elim}
 use mathlib.Core.List.{List, [], _∷_, _++_}
@@ -22,6 +23,7 @@ use Rattle.theory.proofs.Matchers.{none-clear, facing-over}
 use Rattle.theory.proofs.Present.{present}
 use Rattle.theory.proofs.Theorems.{answered}
 use Rattle.theory.proofs.Verdict.{verdict-means, stands-small}
+use Rattle.meaning.specs.Limits.{mostSymbols, variableCount, spanWidth}
 use Rattle.meaning.specs.File.{tableIn}
 use Rattle.meaning.specs.Refusals.{Refusal, refusal, row, first, at0, outside, tableRows, row5, row6, row7, row8, row9, row10, row11}
 use Rattle.meaning.specs.Packing.{order, among, packedCount, packedSpans, packedSets, setsOf}
@@ -39,7 +41,7 @@ use Rattle.meaning.proofs.Drawn.{Packed, drawn-from}
 
 pub record Ready (table pattern heading : List ℕ) (cut : ℕ) : Type 0 where
   pub lawful : Lawful (tableIn table)
-  pub small : tableIn table .size ≤ 256
+  pub small : tableIn table .size ≤ mostSymbols
   pub positive : 0 < cut
   pub cut-top : cut ≤ 1000
   pub pattern-is : Only (WritesPattern (tableIn table) pattern) (patternOf (tableIn table) pattern)
@@ -93,7 +95,7 @@ MatchMeans T c p h = Matches T c p h × MeansMatch T c p h (lowestOf T c (faces 
 module _ (T : Table) (L : Lawful T) (c : ℕ) (pos : 0 < c) (cut : c ≤ 1000) (p : Pattern) (h : Term) (op : Fine T true p) (oh : Over T h) (heading : List ℕ) (is : heading ≡ enc h) where
   pub search-ends : Ending (first (row9 T c p h ∷ row10 T c p h ∷ row11 p h heading ∷ [])) (NoMatcher T c p h) (MatchMeans T c p h)
   unfolding row9 row10 row11 verdict
-  search-ends = go (clash T c (faces p h)) refl (leastBelow 32 (lacking T c p h)) refl (verdict-means T L p h op oh c pos cut)
+  search-ends = go (clash T c (faces p h)) refl (leastBelow variableCount (lacking T c p h)) refl (verdict-means T L p h op oh c pos cut)
     where
       over-p : Overₚ T p
       over-p = fine-over T true p op
@@ -108,7 +110,7 @@ module _ (T : Table) (L : Lawful T) (c : ℕ) (pos : 0 < c) (cut : c ≤ 1000) (
       no11 : clash T c (faces p h) ≡ none → ltb (length heading) (packedCount (faces p h)) ≡ false
       no11 e = le-ltb (length heading) (packedCount (faces p h)) (omega (arith, ap length is, room T L c pos p h over-p oh e))
 
-      go : (o : Option ℕ) → clash T c (faces p h) ≡ o → (q : Option ℕ) → leastBelow 32 (lacking T c p h) ≡ q → Means T c p h (settled o q low high)
+      go : (o : Option ℕ) → clash T c (faces p h) ≡ o → (q : Option ℕ) → leastBelow variableCount (lacking T c p h) ≡ q → Means T c p h (settled o q low high)
           → Ending (first (row 9 o ∷ row 10 q ∷ row 11 (at0 (ltb (length heading) (packedCount (faces p h)))) ∷ [])) (NoMatcher T c p h) (MatchMeans T c p h)
       go (just i) e q f m = by9 i refl (m .1)
       go none e (just v) f m = by10 v refl (m .no-matcher)
@@ -119,7 +121,7 @@ module _ (T : Table) (L : Lawful T) (c : ℕ) (pos : 0 < c) (cut : c ≤ 1000) (
 -- ---- the buffers of an answered match
 
 module _ (T : Table) (c : ℕ) (fs : List Face) where
-  pub packed : (m n v : ℕ) → v < 32 → 0 < length (facing v fs) → Packed T c fs v (packedSpans fs ++ zeros m) (packedSets T c fs ++ zeros n)
+  pub packed : (m n v : ℕ) → v < variableCount → 0 < length (facing v fs) → Packed T c fs v (packedSpans fs ++ zeros m) (packedSets T c fs ++ zeros n)
   unfolding packedSets
   packed m n v l some =
       record {
@@ -132,7 +134,7 @@ module _ (T : Table) (c : ℕ) (fs : List Face) where
       s : among v (order fs) ≡ true
       s = order-among v fs some
 
-      zero-more : 2 * v ≡ 2 * v + 0
+      zero-more : spanWidth * v ≡ spanWidth * v + 0
       zero-more = omega arith
 
 -- ---- demand 2

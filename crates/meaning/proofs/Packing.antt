@@ -1,4 +1,5 @@
--- Packing: variables stand without gaps, in order; what one reads at a variable's positions are its sets; the heading has room for all.
+-- Packing: each variable's sets stand behind those of the variables before it, so one reads there what was packed; and the heading has room for
+-- all, since each is counted once, by the first subterm that it faces.
 use mathlib.Core.Path.{_≡_, refl, sym as inv, ap, _∙_, subst}
 use mathlib.Core.List.{List, [], _∷_, _++_}
 use mathlib.Core.Bool.{Bool, true, false, cond, false≢true}
@@ -17,6 +18,7 @@ use Rattle.theory.specs.Match.{size, inSet, clash}
 use Rattle.theory.proofs.Lemmas.{last-or-below}
 use Rattle.theory.proofs.Matchers.{none-clear}
 use Rattle.theory.proofs.Taken.{taken, taken-all}
+use Rattle.meaning.specs.Limits.{variableCount, spanWidth}
 use Rattle.meaning.specs.Packing.{through, variables, without, firsts, order, countOf, sum, packedCount, startIn, among, spanOf, packedSpans, setsOf}
 
 -- ---- lists of equal width, one after the other
@@ -74,23 +76,23 @@ order-among v fs l = firsts-among v (variables fs) (variables-among v fs l)
 
 -- ---- spans
 
-span-wide : (fs : List Face) (v : ℕ) → length (spanOf fs v) ≡ 2
+span-wide : (fs : List Face) (v : ℕ) → length (spanOf fs v) ≡ spanWidth
 span-wide fs v = go (among v (order fs))
   where
-    go : (b : Bool) → length (cond b (startIn (countOf fs) v (order fs) ∷ countOf fs v ∷ []) (0 ∷ 0 ∷ [])) ≡ 2
+    go : (b : Bool) → length (cond b (startIn (countOf fs) v (order fs) ∷ countOf fs v ∷ []) (0 ∷ 0 ∷ [])) ≡ spanWidth
     go true = refl
     go false = refl
 
-pub length-spans : (fs : List Face) → length (packedSpans fs) ≡ 64
+pub length-spans : (fs : List Face) → length (packedSpans fs) ≡ spanWidth * variableCount
 unfolding packedSpans
-length-spans fs = length-through (spanOf fs) 2 (span-wide fs) 0 32
+length-spans fs = length-through (spanOf fs) spanWidth (span-wide fs) 0 variableCount
 
--- LAW: the two numbers of a variable below 32
-pub span-at : (fs : List Face) (rest : List ℕ) (v j : ℕ) → v < 32 → j < 2 → getD (packedSpans fs ++ rest) (2 * v + j) 0 ≡ getD (spanOf fs v) j 0
+-- LAW: the two numbers of a variable
+pub span-at : (fs : List Face) (rest : List ℕ) (v j : ℕ) → v < variableCount → j < spanWidth → getD (packedSpans fs ++ rest) (spanWidth * v + j) 0 ≡ getD (spanOf fs v) j 0
 unfolding packedSpans
 span-at fs rest v j l m =
-    List·getD-append (through 32 (spanOf fs)) rest 0 (2 * v + j) (omega (arith, length-through (spanOf fs) 2 (span-wide fs) 0 32))
-    ∙ through-at (spanOf fs) 2 (span-wide fs) 0 32 v j l m
+    List·getD-append (through variableCount (spanOf fs)) rest 0 (spanWidth * v + j) (omega (arith, length-through (spanOf fs) spanWidth (span-wide fs) 0 variableCount))
+    ∙ through-at (spanOf fs) spanWidth (span-wide fs) 0 variableCount v j l m
 
 -- ---- sets
 

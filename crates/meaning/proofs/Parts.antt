@@ -1,4 +1,5 @@
--- The subterm at an index, and the nearer of two candidates; and which lists are terms.
+-- Terms and their parts: a list is read whole exactly if it writes a tree within the limits, a subterm's list stands in its term's from its
+-- index on, so a walk from there ends where it does, and the nearer is chosen by the trees' degrees.
 use mathlib.Core.Path.{_≡_, refl, sym as inv, ap, _∙_, subst}
 use mathlib.Core.Logic.{_↔_}
 use mathlib.Core.List.{List, [], _∷_, _++_, append-assoc, append-nil}
@@ -19,7 +20,7 @@ use Rattle.theory.specs.Decode.{patternOf, termOf}
 use Rattle.theory.proofs.Reading.{walk-enc}
 use Rattle.theory.proofs.Decoding.{read-whole, whole-of}
 use Rattle.meaning.specs.File.{tableIn}
-use Rattle.meaning.specs.Refusals.{Refusal, refusal, Row, row, first, faultOf, Given, tableRows, row6, row7}
+use Rattle.meaning.specs.Refusals.{Refusal, refusal, Row, row, first, faultOf, Given, row6, row7, tableRows, SoundFile}
 use Rattle.meaning.specs.Calls.{part, partTo, unlessPart, subtermRows, subterm, theFirst, theSecond, neither, unlessNearer, nearerRows, nearer}
 use Rattle.meaning.specs.Demands.{WritesPattern, Only}
 use Rattle.meaning.specs.Parts.{IsTerm, TermLists, subtermAt, subtermIn, SubtermIs, Subterms, NearerIs, Nearest}
@@ -27,7 +28,7 @@ use Rattle.meaning.proofs.First.{first-given, given-first, all-silent, 
 use Rattle.meaning.proofs.Sound.{sound}
 use Rattle.meaning.proofs.Trees.{whole6, whole7, one-pattern, one-term}
 
--- ---- the subterm at an index of a pattern stands there in its list
+-- ---- a subterm's list stands in its pattern's, from its index on
 
 module _ (T : Table) (vars : Bool) where
   -- the subterm q at an index, and what follows it
@@ -87,7 +88,7 @@ module _ (T : Table) (vars : Bool) where
 
 -- ---- which lists are terms
 
--- LAW: a list is read whole exactly if it writes a pattern of at most 1,024 nodes and depth at most 64
+-- LAW: a list is read whole exactly if it writes a pattern that is neither too long nor too deep
 pub is-term : (T : Table) → T .size ≤ 32768 → (vars : Bool) (list : List ℕ) → reading T vars list ≡ whole ↔ ((p : Pattern) × IsTerm T vars list p)
 is-term T small vars list = (there, back)
   where
@@ -108,7 +109,7 @@ read-first n whole = ((λ e. refl), (λ e. refl))
 read-first n (faulty i) = ((λ e. absurd (Option·some-ne-none (refusal n i) e)), (λ e. let z : _≡_ {A = ℕ} 0 1 = cc in absurd (omega arith)))
 
 -- THEOREM: refusals 6 and 7, of a table that is not refused
-pub terms : (table : List ℕ) → first (tableRows table) ≡ none → TermLists table
+pub terms : (table : List ℕ) → SoundFile table → TermLists table
 unfolding row6 row7
 terms table e =
     let T = tableIn table in
@@ -138,7 +139,7 @@ subterm-found table term i e l =
     T : Table
     T = tableIn table
 
-    rows : (first (tableRows table) ≡ none) × (first (row6 T true term ∷ []) ≡ none)
+    rows : (SoundFile table) × (first (row6 T true term ∷ []) ≡ none)
     rows = append-none (tableRows table) (row6 T true term ∷ []) e
 
     small : T .size ≤ 32768
@@ -165,7 +166,7 @@ subterm-found table term i e l =
     back : i + length (encₚ (s .q)) - i ≡ length (encₚ (s .q))
     back = omega arith
 
--- THEOREM: the subterm at an index
+-- THEOREM: subterms
 pub subterms : Subterms
 unfolding subterm
 subterms =

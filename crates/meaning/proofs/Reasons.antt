@@ -1,4 +1,5 @@
--- Why a match is refused by 9 or 10, in document 01's words, and that it is never refused by 11.
+-- Why a match is refused by 9 or 10, and that it never is by 11: rows 9 and 10 are what the theory's verdict is made of, and where neither holds
+-- there is room.
 use mathlib.Core.Path.{_≡_, refl, sym as inv, ap, _∙_}
 use mathlib.Core.List.{List, [], _∷_}
 use mathlib.Core.Bool.{Bool, true, false}
@@ -9,16 +10,16 @@ use lib.Dec.{ltb}
 use lib.ListN.{length, getD}
 use Rattle.theory.specs.Tree.{Term, Pattern}
 use Rattle.theory.specs.Table.{Table}
-use Rattle.theory.specs.Faces.{faces}
+use Rattle.theory.specs.Faces.{faces, nodeOf}
 use Rattle.theory.specs.Match.{clash, lowestOf, highestOf}
 use Rattle.theory.specs.Least.{leastBelow}
 use Rattle.theory.specs.Verdict.{verdict, settled, lacking, Means, MeansFormless}
 use Rattle.theory.specs.Decode.{patternOf, termOf}
 use Rattle.theory.proofs.Decoding.{fine-over}
 use Rattle.theory.proofs.More.{clash-at}
-use Rattle.theory.specs.Faces.{nodeOf}
 use Rattle.theory.proofs.Place.{clash-place}
 use Rattle.theory.proofs.Verdict.{verdict-means}
+use Rattle.meaning.specs.Limits.{variableCount}
 use Rattle.meaning.specs.File.{tableIn}
 use Rattle.meaning.specs.Refusals.{refusal, row, first, at0, row9, row10, row11}
 use Rattle.meaning.specs.Packing.{packedCount}
@@ -55,7 +56,7 @@ module _ (table pattern heading : List ℕ) (cut : ℕ) (spans sets : List ℕ) 
 
   -- a refusal is one of the search
   searched : (n place : ℕ) → matched table pattern heading cut spans sets ≡ refused n place
-      → first (row 9 (clash T cut (faces p h)) ∷ row 10 (leastBelow 32 (lacking T cut p h)) ∷ row 11 (at0 (ltb (length heading) (packedCount (faces p h)))) ∷ []) ≡ just (refusal n place)
+      → first (row 9 (clash T cut (faces p h)) ∷ row 10 (leastBelow variableCount (lacking T cut p h)) ∷ row 11 (at0 (ltb (length heading) (packedCount (faces p h)))) ∷ []) ≡ just (refusal n place)
   unfolding matched matchRows searchRows row9 row10 row11
   searched n place e =
       inv (first-append (inputRows table pattern heading cut spans sets) (searchRows table pattern heading cut) a)
@@ -63,7 +64,7 @@ module _ (table pattern heading : List ℕ) (cut : ℕ) (spans sets : List ℕ) 
 
   nine : (i : ℕ) → matched table pattern heading cut spans sets ≡ refused 9 i → Clashes T cut p h pattern i
   nine i e =
-      let c = is-nine (clash T cut (faces p h)) (leastBelow 32 (lacking T cut p h)) (ltb (length heading) (packedCount (faces p h))) i (searched 9 i e) in
+      let c = is-nine (clash T cut (faces p h)) (leastBelow variableCount (lacking T cut p h)) (ltb (length heading) (packedCount (faces p h))) i (searched 9 i e) in
       let q = clash-at T cut (faces p h) i c in
       let w = clash-place T (r .lawful) cut (r .positive) p h (fine-over T true p (r .pattern-is .holds .fine)) (r .heading-is .holds .over) i c in
       let is = r .pattern-is .holds .is in
@@ -76,7 +77,7 @@ module _ (table pattern heading : List ℕ) (cut : ℕ) (spans sets : List ℕ) 
   ten : (v : ℕ) → matched table pattern heading cut spans sets ≡ refused 10 v → MeansFormless T cut p h v
   unfolding verdict
   ten v e =
-      let c = is-ten (clash T cut (faces p h)) (leastBelow 32 (lacking T cut p h)) (ltb (length heading) (packedCount (faces p h))) v (searched 10 v e) in
+      let c = is-ten (clash T cut (faces p h)) (leastBelow variableCount (lacking T cut p h)) (ltb (length heading) (packedCount (faces p h))) v (searched 10 v e) in
       let m = verdict-means T (r .lawful) p h (r .pattern-is .holds .fine) (r .heading-is .holds .over) cut (r .positive) (r .cut-top) in
       let q : Means T cut p h (settled none (just v) (lowestOf T cut (faces p h)) (highestOf T cut (faces p h))) = rw (c .0, c .1) at m in
       q

@@ -1,4 +1,5 @@
--- What document 01 says of an answered match, sentence by sentence.
+-- The sets and degrees of an answered match: what one reads at a variable's position is the set packed there, whose test asks for just that
+-- nearness; and degrees that matchers reach lie between the cut and the top.
 use mathlib.Core.Path.{_≡_, ap, _∙_}
 use mathlib.Core.Logic.{_↔_}
 use mathlib.Core.List.{List, _++_}
@@ -22,6 +23,7 @@ use Rattle.theory.proofs.Matchers.{none-clear}
 use Rattle.theory.proofs.Present.{present}
 use Rattle.theory.proofs.Verdict.{stands-small}
 use Rattle.theory.proofs.Corollaries.{cut-low, low-high, high-top, no-variables}
+use Rattle.meaning.specs.Limits.{setRoom}
 use Rattle.meaning.specs.File.{tableIn}
 use Rattle.meaning.specs.Refusals.{first}
 use Rattle.meaning.specs.Packing.{order, packedSpans, packedSets, setsOf}
@@ -36,7 +38,7 @@ use Rattle.meaning.proofs.Matched.{Ready, ready, given-none, match-ends
 
 -- ---- one set
 
--- a symbol is in the set exactly if it is the table's and reaches the cut with each
+-- a symbol is in the set exactly if it is the table's and near enough to each
 members : (T : Table) (c : ℕ) → c ≤ 1000 → (ts : List Term) (k s : ℕ) → inSet T c ts k s ≡ true ↔ ((s < T .size) × All (λ t. c ≤ T .deg s (at T t k)) ts)
 members T c cut ts k s = (
   (λ e. (set-symbol T c ts k s e, all-of-least (λ t. T .deg s (at T t k)) c ts (set-shared T c ts k s e))),
@@ -44,7 +46,7 @@ members T c cut ts k s = (
 )
 
 -- what is held at a position of a packed variable
-held-at : (T : Table) (c : ℕ) (fs : List Face) (v : ℕ) (spans sets : List ℕ) → Packed T c fs v spans sets → (k : ℕ) → k < positionCount spans v → (s : ℕ) → s < 256
+held-at : (T : Table) (c : ℕ) (fs : List Face) (v : ℕ) (spans sets : List ℕ) → Packed T c fs v spans sets → (k : ℕ) → k < positionCount spans v → (s : ℕ) → s < setRoom
     → holds sets (firstPosition spans v + k) s ≡ inSet T c (facing v fs) k s
 held-at T c fs v spans sets b k l s m =
     b .held (firstPosition spans v + k) s m
@@ -98,7 +100,7 @@ module _ (table pattern heading : List ℕ) (cut : ℕ) (spans sets : List ℕ) 
       oh : Over T h
       oh = r .heading-is .holds .over
 
-      held : (v : ℕ) → stands v p ≡ true → (k : ℕ) → k < positionCount (laterSpans table pattern heading cut spans sets) v → (s : ℕ) → s < 256
+      held : (v : ℕ) → stands v p ≡ true → (k : ℕ) → k < positionCount (laterSpans table pattern heading cut spans sets) v → (s : ℕ) → s < setRoom
           → holds (laterSets table pattern heading cut spans sets) (firstPosition (laterSpans table pattern heading cut spans sets) v + k) s ≡ inSet T cut (facing v fs) k s
       held v s =
           let m = length spans - length (packedSpans fs) in

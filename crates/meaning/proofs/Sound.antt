@@ -1,4 +1,4 @@
--- A table that is not refused is lawful, and has at most 256 symbols.
+-- A table that is not refused is lawful and has few symbols: no row holds, so what each row tests is as it has to be.
 use mathlib.Core.Path.{_≡_, refl, sym as inv, ap, _∙_}
 use mathlib.Core.List.{List, [], _∷_}
 use mathlib.Core.Bool.{Bool, true, false, _||_, not, false≢true}
@@ -9,11 +9,12 @@ use lib.Dec.{eqb, ltb}
 use lib.ListN.{length, getD, drop, length-take, length-drop}
 use borrow.Author.Tests.{ltb-true, ltb-false, eqb-true, not-false}
 use Rattle.theory.specs.Least.{All}
-use Rattle.theory.specs.Pairs.{Pair, pair, SoundPair}
+use Rattle.theory.specs.Pairs.{Pair, pair, listedTop, SoundPair}
 use Rattle.theory.proofs.Pairs.{lawful}
 use Rattle.theory.proofs.Lemmas.{least-none}
+use Rattle.meaning.specs.Limits.{mostSymbols, mostPairs, mostArguments}
 use Rattle.meaning.specs.File.{symbolCount, pairCount, aritiesOffset, pairsOffset, totalField, pairsAt, total, aritiesIn, pairsFrom, pairsIn, tableIn}
-use Rattle.meaning.specs.Refusals.{rowPlace, first, at0, outside, unsound, unordered, badPair, row1-short, row1-offsets, row2, row3, row4, tableRows}
+use Rattle.meaning.specs.Refusals.{at0, outside, unsound, unordered, badPair, row1-short, row1-offsets, row2, row3, row4, tableRows, SoundFile}
 use Rattle.meaning.specs.Tables.{SoundTable}
 use Rattle.meaning.proofs.First.{Silent, all-silent}
 
@@ -35,19 +36,19 @@ all-of P (x ∷ xs) d h = (h 0 (omega arith), all-of P xs d (λ k l. h (suc k) (
 
 pub sound-pair : (arities : List ℕ) (p : Pair) → unsound arities p ≡ false → SoundPair arities p
 sound-pair arities (pair l h d) e =
-    let a = or-false _ (outside 1 1000 d) e in
+    let a = or-false _ (outside 1 listedTop d) e in
     let b = or-false _ (not (eqb (getD arities l 0) (getD arities h 0))) (a .0) in
     let c = or-false (not (ltb l h)) (not (ltb h (length arities))) (b .0) in
-    let i = inside-of 1 1000 d (a .1) in
+    let i = inside-of 1 listedTop d (a .1) in
     (ltb-true l h (not-false _ (c .0)), ltb-true h (length arities) (not-false _ (c .1)), eqb-true _ _ (not-false _ (b .1)), i .0, i .1)
 
-pub sound-pairs : (arities : List ℕ) (pairs : List Pair) → rowPlace (row4 arities pairs) ≡ none → All (SoundPair arities) pairs
+pub sound-pairs : (arities : List ℕ) (pairs : List Pair) → Silent (row4 arities pairs) → All (SoundPair arities) pairs
 unfolding row4
 sound-pairs arities pairs e =
     all-of (SoundPair arities) pairs (pair 0 0 0)
     (λ k l. sound-pair arities (getD pairs k (pair 0 0 0)) (or-false _ (unordered pairs k) (least-none (length pairs) (badPair arities pairs) e k l) .0))
 
-ordered-pairs : (arities : List ℕ) (pairs : List Pair) → rowPlace (row4 arities pairs) ≡ none → (k : ℕ) → k < length pairs → unordered pairs k ≡ false
+ordered-pairs : (arities : List ℕ) (pairs : List Pair) → Silent (row4 arities pairs) → (k : ℕ) → k < length pairs → unordered pairs k ≡ false
 unfolding row4
 ordered-pairs arities pairs e k l = or-false (unsound arities (getD pairs k (pair 0 0 0))) _ (least-none (length pairs) (badPair arities pairs) e k l) .1
 
@@ -75,31 +76,19 @@ offsets file e =
       of-length = eqb-true (totalField file) (length file) (not-false _ (t .1));
     }
 
--- what a table that is not refused has passed
-pub record Passed (file : List ℕ) : Type 0 where
-  pub long : 10 ≤ length file
-  pub symbols : (1 ≤ symbolCount file) × (symbolCount file ≤ 256)
-  pub few-pairs : pairCount file ≤ 8192
-  pub placed : Offsets file
-  pub length-is : length file ≡ total (symbolCount file) (pairCount file)
-  pub pairs : All (SoundPair (aritiesIn file)) (pairsIn file)
-  pub ordered : (k : ℕ) → k < length (pairsIn file) → unordered (pairsIn file) k ≡ false
+-- counts in their ranges
+pub counts-inside : (s p : ℕ) → Silent (row2 s p) → (1 ≤ s) × (s ≤ mostSymbols) × (p ≤ mostPairs)
+unfolding row2
+counts-inside s p e =
+    let few = outside 1 mostSymbols s in
+    let fewPairs = outside 0 mostPairs p in
+    let q = or-false few fewPairs (at0-none (few || fewPairs) e) in
+    (inside-of 1 mostSymbols s (q .0) .0, inside-of 1 mostSymbols s (q .0) .1, inside-of 0 mostPairs p (q .1) .1)
 
-pub passed : (file : List ℕ) → first (tableRows file) ≡ none → Passed file
-unfolding tableRows row1-short row1-offsets row2 row3
-passed file e =
-    let q = all-silent (tableRows file) e in
-    let s = or-false (outside 1 256 (symbolCount file)) (outside 0 8192 (pairCount file)) (at0-none (outside 1 256 (symbolCount file) || outside 0 8192 (pairCount file)) (q .1 .0)) in
-    let t = offsets file (q .1 .1 .0) in
-    record {
-      long = ltb-false (length file) 10 (at0-none (ltb (length file) 10) (q .0));
-      symbols = inside-of 1 256 (symbolCount file) (s .0);
-      few-pairs = inside-of 0 8192 (pairCount file) (s .1) .1;
-      placed = t;
-      length-is = inv (t .of-length) ∙ t .of-total;
-      pairs = sound-pairs (aritiesIn file) (pairsIn file) (q .1 .1 .1 .1 .0);
-      ordered = ordered-pairs (aritiesIn file) (pairsIn file) (q .1 .1 .1 .1 .0);
-    }
+-- arities that are not too high
+pub low-arities : (arities : List ℕ) → Silent (row3 arities) → (a : ℕ) → a < length arities → getD arities a 0 ≤ mostArguments
+unfolding row3
+low-arities arities e a l = ltb-false mostArguments (getD arities a 0) (least-none (length arities) (λ a. ltb mostArguments (getD arities a 0)) e a l)
 
 -- the lengths of what was read
 pub length-pairsFrom : (file : List ℕ) (n i : ℕ) → length (pairsFrom file i n) ≡ n
@@ -110,12 +99,44 @@ pub length-pairsIn : (file : List ℕ) → length (pairsIn file) ≡ pairCount f
 unfolding pairsIn
 length-pairsIn file = length-pairsFrom file (pairCount file) (pairsAt (symbolCount file))
 
-pub length-aritiesIn : (file : List ℕ) → Passed file → length (aritiesIn file) ≡ symbolCount file
+pub length-arities : (file : List ℕ) → pairsAt (symbolCount file) ≤ length file → length (aritiesIn file) ≡ symbolCount file
 unfolding aritiesIn
-length-aritiesIn file q = omega (arith, length-take (symbolCount file) (drop 10 file), length-drop 10 file, q .length-is)
+length-arities file l = omega (arith, length-take (symbolCount file) (drop 10 file), length-drop 10 file)
+
+-- what a table that is not refused has passed
+pub record Passed (file : List ℕ) : Type 0 where
+  pub long : 10 ≤ length file
+  pub symbols : (1 ≤ symbolCount file) × (symbolCount file ≤ mostSymbols)
+  pub few-pairs : pairCount file ≤ mostPairs
+  pub placed : Offsets file
+  pub length-is : length file ≡ total (symbolCount file) (pairCount file)
+  pub arities : (a : ℕ) → a < symbolCount file → getD (aritiesIn file) a 0 ≤ mostArguments
+  pub pairs : All (SoundPair (aritiesIn file)) (pairsIn file)
+  pub ordered : (k : ℕ) → k < length (pairsIn file) → unordered (pairsIn file) k ≡ false
+
+pub length-aritiesIn : (file : List ℕ) → Passed file → length (aritiesIn file) ≡ symbolCount file
+length-aritiesIn file q = length-arities file (omega (arith, q .length-is))
+
+pub passed : (file : List ℕ) → SoundFile file → Passed file
+unfolding tableRows row1-short
+passed file e =
+    let q = all-silent (tableRows file) e in
+    let s = counts-inside (symbolCount file) (pairCount file) (q .1 .0) in
+    let t = offsets file (q .1 .1 .0) in
+    let n = inv (t .of-length) ∙ t .of-total in
+    record {
+      long = ltb-false (length file) 10 (at0-none (ltb (length file) 10) (q .0));
+      symbols = (s .0, s .1);
+      few-pairs = s .2;
+      placed = t;
+      length-is = n;
+      arities = λ a l. low-arities (aritiesIn file) (q .1 .1 .1 .0) a (omega (arith, length-arities file (omega arith)));
+      pairs = sound-pairs (aritiesIn file) (pairsIn file) (q .1 .1 .1 .1 .0);
+      ordered = ordered-pairs (aritiesIn file) (pairsIn file) (q .1 .1 .1 .1 .0);
+    }
 
 -- THEOREM: a table that is not refused is lawful
-pub sound : (table : List ℕ) → first (tableRows table) ≡ none → SoundTable table
+pub sound : (table : List ℕ) → SoundFile table → SoundTable table
 unfolding tableIn aritiesIn
 sound table e =
     let q = passed table e in

@@ -1,29 +1,29 @@
--- Reading what was written gives the same arities and pairs; writing what was read gives the same bytes.
+-- A file that was written reads as what was given, since two bytes give back the number that they were made of; and the file of what a table
+-- holds is the table, since the bytes made of a number that was read are the two that stood there.
 use mathlib.Core.Path.{_≡_, refl, sym as inv, ap, ap₂, _∙_}
 use mathlib.Core.List.{List, [], _∷_, _++_, append-assoc, append-nil}
-use mathlib.Core.Bool.{_||_}
 use mathlib.Core.Option.{none}
 use Prim.Native.Nat.{ℕ, zero, suc, _+_, _*_, _/_, _%_, _≤_, _<_}
 use native.Mathlib.Numerals.{add-one}
 use native.Mathlib.Omega.{arith}
-use lib.Dec.{ltb}
 use lib.Seq.{getD-append-add, take-at, drop-cons, drop-drop, drop-length}
 use lib.ListN.{length, getD, take, drop, length-append, length-take, length-drop, take-append-drop}
-use borrow.Author.Tests.{ltb-false, le-ltb, eq-eqb}
 use Rattle.theory.specs.Least.{All}
 use Rattle.theory.specs.Pairs.{Pair, pair, SoundPair}
 use Rattle.theory.proofs.Lemmas.{all-append, all-getD}
-use Rattle.theory.proofs.Lemmas.{least-none}
-use Rattle.meaning.specs.File.{number, symbolCount, pairCount, aritiesOffset, pairsOffset, totalField, pairsAt, total, aritiesIn, pairAt, pairsFrom, pairsIn, bytesOf, header, pairBytes, pairsBytes, fileOf}
-use Rattle.meaning.specs.Refusals.{first, at0, outside, tableRows, row1-short, row1-offsets, row2, row3, row4, row8-output}
+use Rattle.meaning.specs.Limits.{mostSymbols, mostPairs}
+use Rattle.meaning.specs.File.{number, symbolCount, pairCount, pairsAt, total, aritiesIn, pairAt, pairsFrom, pairsIn, bytesOf, header, pairBytes, pairsBytes, fileOf}
+use Rattle.meaning.specs.Refusals.{first, tableRows, row1-short, row1-offsets, row2, row3, row4, row8-output, SoundFile}
 use Rattle.meaning.specs.Calls.{writerRows}
 use Rattle.meaning.specs.Tables.{Bytes}
 use Rattle.meaning.proofs.First.{Silent, all-silent, silent-first}
-use Rattle.meaning.proofs.Sound.{length-pairsFrom, or-false, at0-none, inside-of, Offsets, passed, all-of, sound-pairs}
+use Rattle.meaning.proofs.Sound.{length-pairsFrom, Offsets, passed, all-of, counts-inside, low-arities, sound-pairs}
+use Rattle.meaning.proofs.Silent.{silent-short, silent-offsets}
 
+-- what was written are bytes, and a table with these arities and pairs
 pub record ReadWritten (arities : List ℕ) (pairs : List Pair) : Type 0 where
   pub bytes : Bytes (fileOf arities pairs)
-  pub is-table : first (tableRows (fileOf arities pairs)) ≡ none
+  pub is-table : SoundFile (fileOf arities pairs)
   pub same-arities : aritiesIn (fileOf arities pairs) ≡ arities
   pub same-pairs : pairsIn (fileOf arities pairs) ≡ pairs
 
@@ -32,13 +32,13 @@ pub record ReadWritten (arities : List ℕ) (pairs : List Pair) : Type 0 where
 digits : (n : ℕ) → n % 256 + n / 256 * 256 ≡ n
 digits n = omega arith
 
--- a number further on is a number of what stands there
+-- a number behind other bytes
 number-after : (pre ys : List ℕ) (n : ℕ) → number (pre ++ ys) (length pre + n) ≡ number ys n
 number-after pre ys n =
     let i : length pre + n + 1 ≡ length pre + (n + 1) = omega arith in
     ap₂ (λ a b. a + b * 256) (getD-append-add pre ys n 0) (ap (λ i. getD (pre ++ ys) i 0) i ∙ getD-append-add pre ys (n + 1) 0)
 
--- ---- reading what was written
+-- ---- the lists that a written file holds
 
 pair-after : (pre : List ℕ) (l h d : ℕ) (rest : List ℕ) (i : ℕ) → length pre ≡ i → pairAt (pre ++ (pairBytes (pair l h d) ++ rest)) i ≡ pair l h d
 pair-after pre l h d rest i e =
@@ -86,23 +86,12 @@ module _ (arities : List ℕ) (pairs : List Pair) where
   unfolding fileOf
   length-file = omega (arith, length-append arities (pairsBytes pairs), length-pairsBytes pairs)
 
-silent-offsets : (file : List ℕ) → aritiesOffset file ≡ 10 → pairsOffset file ≡ pairsAt (symbolCount file) → totalField file ≡ total (symbolCount file) (pairCount file)
-    → totalField file ≡ length file → Silent (row1-offsets file)
-unfolding row1-offsets
-silent-offsets file a b c d =
-    rw (
-      eq-eqb (aritiesOffset file) 10 a,
-      eq-eqb (pairsOffset file) (pairsAt (symbolCount file)) b,
-      eq-eqb (totalField file) (total (symbolCount file) (pairCount file)) c,
-      eq-eqb (totalField file) (length file) d,
-    )
-
 -- ---- what is written are bytes
 
 two-bytes : (n : ℕ) → n < 65536 → Bytes (bytesOf n)
 two-bytes n l = (omega arith, (omega arith, tt))
 
-pairs-bytes : (arities : List ℕ) → length arities ≤ 256 → (ps : List Pair) → All (SoundPair arities) ps → Bytes (pairsBytes ps)
+pairs-bytes : (arities : List ℕ) → length arities ≤ mostSymbols → (ps : List Pair) → All (SoundPair arities) ps → Bytes (pairsBytes ps)
 pairs-bytes arities b [] s = tt
 pairs-bytes arities b (pair l h d ∷ ps) s =
     let x = two-bytes l (omega (arith, s .0 .0, s .0 .1)) in
@@ -110,20 +99,16 @@ pairs-bytes arities b (pair l h d ∷ ps) s =
     let z = two-bytes d (omega (arith, s .0 .4)) in
     (x .0, (x .1 .0, (y .0, (y .1 .0, (z .0, (z .1 .0, pairs-bytes arities b ps (s .1)))))))
 
-small-arities : (arities : List ℕ) → Silent (row3 arities) → Bytes arities
-unfolding row3
-small-arities arities e = all-of (λ b. b < 256) arities 0 (λ k l. omega (arith, ltb-false 8 (getD arities k 0) (least-none (length arities) (λ a. ltb 8 (getD arities a 0)) e k l)))
-
 module _ (arities : List ℕ) (pairs : List Pair) (output : List ℕ) (e : first (writerRows arities pairs output) ≡ none) where
   silent : All Silent (row2 (length arities) (length pairs) ∷ row3 arities ∷ row4 arities pairs ∷ row8-output (total (length arities) (length pairs)) output ∷ [])
   unfolding writerRows
   silent = all-silent (writerRows arities pairs output) e
 
-  counts : (length arities ≤ 256) × (length pairs ≤ 8192)
-  unfolding row2
-  counts =
-      let s = or-false (outside 1 256 (length arities)) (outside 0 8192 (length pairs)) (at0-none (outside 1 256 (length arities) || outside 0 8192 (length pairs)) (silent .0)) in
-      (inside-of 1 256 (length arities) (s .0) .1, inside-of 0 8192 (length pairs) (s .1) .1)
+  counts : (1 ≤ length arities) × (length arities ≤ mostSymbols) × (length pairs ≤ mostPairs)
+  counts = counts-inside (length arities) (length pairs) (silent .0)
+
+  arity-bytes : Bytes arities
+  arity-bytes = all-of (λ b. b < 256) arities 0 (λ a l. omega (arith, low-arities arities (silent .1 .0) a l))
 
   header-bytes : Bytes (header (length arities) (length pairs))
   header-bytes =
@@ -133,13 +118,14 @@ module _ (arities : List ℕ) (pairs : List Pair) (output : List ℕ) (e : first
       let d = two-bytes (total (length arities) (length pairs)) (omega (arith, counts)) in
       (a .0, (a .1 .0, (b .0, (b .1 .0, (omega arith, (omega arith, (c .0, (c .1 .0, (d .0, (d .1 .0, tt))))))))))
 
+  -- LAW: what the writer's rows let pass is written as a table
   pub read-back : ReadWritten arities pairs
-  unfolding fileOf tableRows row1-short
+  unfolding fileOf tableRows
   read-back =
       record {
         bytes =
             all-append (λ b. b < 256) (header (length arities) (length pairs)) (arities ++ pairsBytes pairs) header-bytes
-            (all-append (λ b. b < 256) arities (pairsBytes pairs) (small-arities arities (silent .1 .0)) (pairs-bytes arities (counts .0) pairs (sound-pairs arities pairs (silent .1 .1 .0))));
+            (all-append (λ b. b < 256) arities (pairsBytes pairs) arity-bytes (pairs-bytes arities (counts .1) pairs (sound-pairs arities pairs (silent .1 .1 .0))));
         is-table = silent-first (tableRows (fileOf arities pairs)) (short, (again, (off, (rw (arities-back arities pairs) (silent .1 .0), (rw (arities-back arities pairs, pairs-back arities pairs) (silent .1 .1 .0), tt)))));
         same-arities = arities-back arities pairs;
         same-pairs = pairs-back arities pairs;
@@ -149,19 +135,22 @@ module _ (arities : List ℕ) (pairs : List Pair) (output : List ℕ) (e : first
       f = fileOf arities pairs
 
       short : Silent (row1-short f)
-      short = ap at0 (le-ltb (length f) 10 (omega (arith, length-file arities pairs)))
+      short = silent-short f (omega (arith, length-file arities pairs))
 
       again : Silent (row2 (symbolCount f) (pairCount f))
       again = rw (count-is arities pairs, pairs-is arities pairs) (silent .0)
 
       off : Silent (row1-offsets f)
       off =
-          silent-offsets f refl
-          (digits (pairsAt (length arities)) ∙ ap pairsAt (inv (count-is arities pairs)))
-          (digits (total (length arities) (length pairs)) ∙ ap₂ total (inv (count-is arities pairs)) (inv (pairs-is arities pairs)))
-          (digits (total (length arities) (length pairs)) ∙ inv (length-file arities pairs))
+          silent-offsets f
+          (record {
+            of-arities = refl;
+            of-pairs = digits (pairsAt (length arities)) ∙ ap pairsAt (inv (count-is arities pairs));
+            of-total = digits (total (length arities) (length pairs)) ∙ ap₂ total (inv (count-is arities pairs)) (inv (pairs-is arities pairs));
+            of-length = digits (total (length arities) (length pairs)) ∙ inv (length-file arities pairs);
+          })
 
--- ---- writing what was read
+-- ---- the file of what was read
 
 module _ (t : List ℕ) (bytes : Bytes t) where
   -- the two bytes of a number
@@ -206,7 +195,8 @@ module _ (t : List ℕ) (bytes : Bytes t) where
       ∙ ap (λ r. bytesOf s ++ r) (inv (number-bytes 2 (omega arith)))
       ∙ inv (number-bytes 0 (omega arith))
 
-  pub write-back : first (tableRows t) ≡ none → fileOf (aritiesIn t) (pairsIn t) ≡ t
+  -- LAW: a table is the file of what it holds
+  pub write-back : SoundFile t → fileOf (aritiesIn t) (pairsIn t) ≡ t
   unfolding fileOf aritiesIn pairsIn
   write-back e =
       let q = passed t e in

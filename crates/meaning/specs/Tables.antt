@@ -1,5 +1,5 @@
 -- What is said of tables: which files are tables, the degrees of their symbols, reading back and writing. Statements; the proofs are in
--- proofs/Sound, proofs/Degrees and proofs/Writing.
+-- proofs/Recognised, proofs/Sound, proofs/Degrees, proofs/Back and proofs/RoundTrip.
 use mathlib.Core.Path.{_≡_}
 use mathlib.Core.Logic.{_↔_, _⊎_}
 use mathlib.Core.List.{List, _++_}
