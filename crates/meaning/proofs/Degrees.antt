@@ -68,7 +68,7 @@ module _ (table : List ℕ) (e : SoundFile table) where
   unfolding symbolDegree
   gives-degree a b d k = rw e (ap gives k)
 
-  degree-listed : (k l h d : ℕ) → k < pairCount table → getD (pairsIn table) k (pair 0 0 0) ≡ pair l h d → tableIn table .deg l h ≡ d
+  pub degree-listed : (k l h d : ℕ) → k < pairCount table → getD (pairsIn table) k (pair 0 0 0) ≡ pair l h d → tableIn table .deg l h ≡ d
   unfolding tableIn
   degree-listed k l h d m f =
       let n : k < length (pairsIn table) = omega (arith, length-pairsIn table) in
@@ -76,7 +76,7 @@ module _ (table : List ℕ) (e : SoundFile table) where
       rw (lt-ltb l (length (aritiesIn table)) (omega (arith, s .0, s .1)), lt-ltb h (length (aritiesIn table)) (s .1), ne-eqb l h (λ z. omega (arith, s .0)))
       (listed-at (aritiesIn table) (pairsIn table) (q .pairs) (sorted (pairsIn table) (q .ordered)) k l h d n f)
 
-  degree-others : (a b : ℕ) → (a ≡ b → ⊥) → ((k l h d : ℕ) → k < pairCount table → getD (pairsIn table) k (pair 0 0 0) ≡ pair l h d → isPair l h a b ≡ false) → tableIn table .deg a b ≡ 0
+  pub degree-others : (a b : ℕ) → (a ≡ b → ⊥) → ((k l h d : ℕ) → k < pairCount table → getD (pairsIn table) k (pair 0 0 0) ≡ pair l h d → isPair l h a b ≡ false) → tableIn table .deg a b ≡ 0
   unfolding tableIn
   degree-others a b n no-pair =
       rw (ne-eqb a b n, listed-none (pairsIn table) a b (λ k l h d m f. no-pair k l h d (omega (arith, length-pairsIn table)) f)) (both (ltb a (length (aritiesIn table)) && ltb b (length (aritiesIn table))))
@@ -85,7 +85,7 @@ module _ (table : List ℕ) (e : SoundFile table) where
       both true = refl
       both false = refl
 
-  degree-outside : (a b : ℕ) → (symbolCount table ≤ a) ⊎ (symbolCount table ≤ b) → tableIn table .deg a b ≡ 0
+  pub degree-outside : (a b : ℕ) → (symbolCount table ≤ a) ⊎ (symbolCount table ≤ b) → tableIn table .deg a b ≡ 0
   unfolding tableIn
   degree-outside a b (inl l) = rw (le-ltb a (length (aritiesIn table)) (omega (arith, length-aritiesIn table q)))
   degree-outside a b (inr l) = rw (le-ltb b (length (aritiesIn table)) (omega (arith, length-aritiesIn table q))) (zero-of (ltb a (length (aritiesIn table))))

@@ -2,3 +2,7 @@
 pub mod Rising
 pub mod Pairs
 pub mod Rows
+pub mod Reading
+pub mod Halving
+pub mod Listed
+pub mod Gathering

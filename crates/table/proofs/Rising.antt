@@ -17,7 +17,7 @@ use Rattle.table.specs.Keys.{keyOf, pairKey, keyBefore}
 abbrev pub Short : Pair → Type 0
 Short (pair lower higher degree) = higher < 65536
 
-rises-key : (p q : Pair) → Short p → Short q → rises p q ≡ ltb (pairKey p) (pairKey q)
+pub rises-key : (p q : Pair) → Short p → Short q → rises p q ≡ ltb (pairKey p) (pairKey q)
 rises-key (pair l h d) (pair l′ h′ d′) s s′ = go (decLt l l′) (ℕ-discrete l l′) (decLt h h′)
   where
     go : Dec (l < l′) → Dec (l ≡ l′) → Dec (h < h′) → (ltb l l′ || (eqb l l′ && ltb h h′)) ≡ ltb (keyOf l h) (keyOf l′ h′)
