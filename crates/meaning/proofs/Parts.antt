@@ -53,7 +53,7 @@ module _ (T : Table) (vars : Bool) where
       }
 
   mutual
-    sub-at : (p : Pattern) → Fine T vars p → (i : ℕ) → i < length (encₚ p) → Sub (subtermAt p i) (depth p) (drop i (encₚ p))
+    pub sub-at : (p : Pattern) → Fine T vars p → (i : ℕ) → i < length (encₚ p) → Sub (subtermAt p i) (depth p) (drop i (encₚ p))
     sub-at (var v) o zero l = record { q = var v; is = refl; fine = o; deep = omega arith; rest = []; here = refl }
     sub-at (var v) o (suc i) l = absurd (omega arith)
     sub-at (sym f ps) o zero l = record { q = sym f ps; is = refl; fine = o; deep = omega arith; rest = []; here = inv (append-nil (encₚ (sym f ps))) }

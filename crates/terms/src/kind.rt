@@ -1,0 +1,27 @@
+// What kind of node a number is.
+ghost use mathlib.Core.Path.{_≡_};
+ghost use Prim.Native.Nat.{_≤_};
+ghost use Rattle.terms.specs.Kinds.{kindOf};
+
+pub enum Kind {
+    Symbol(u16),
+    // by its number, from 0
+    Variable(u16),
+    Neither,
+}
+
+// The kind of a node over a table of so many symbols.
+pub fn kind_of(symbols: u16, node: u16) -> Kind
+    requires { ⌜ symbols ≤ 256 ⌝ }
+    ensures { λ r. ⌜ r ≡ kindOf symbols node ⌝ }
+{
+    match node {
+        0..=255 => if node < symbols {
+            Kind::Symbol(node)
+        } else {
+            Kind::Neither
+        },
+        32768..=32799 => Kind::Variable(node - 32768),
+        _ => Kind::Neither,
+    }
+}
