@@ -1,0 +1,3 @@
+-- Laws of the calls, and that each promise allows one result.
+pub mod Checks
+pub mod OneTable

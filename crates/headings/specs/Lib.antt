@@ -1,0 +1,2 @@
+-- What each public call promises, a file for each module of calls.
+pub mod Tables
