@@ -23,19 +23,19 @@ one-said-table : (r s : TableAnswer) → saidTable r ≡ saidTable s → r ≡ s
 one-said-table Table Table e = refl
 one-said-table Table (NoTable why) e = let z : _≡_ {A = ℕ} 0 1 = cc in absurd (omega arith)
 one-said-table (NoTable why) Table e = let z : _≡_ {A = ℕ} 0 1 = cc in absurd (omega arith)
-one-said-table (NoTable why) (NoTable other) e = ap NoTable (one-refusal {A = Yes} why other e)
+one-said-table (NoTable why) (NoTable other) e = ap NoTable (one-refusal Yes why other e)
 
 pub one-said-degree : (r s : DegreeAnswer) → saidDegree r ≡ saidDegree s → r ≡ s
 one-said-degree (Degree d) (Degree d′) e = ap Degree (cc)
 one-said-degree (Degree d) (NoDegree why) e = let z : _≡_ {A = ℕ} 0 1 = cc in absurd (omega arith)
 one-said-degree (NoDegree why) (Degree d) e = let z : _≡_ {A = ℕ} 0 1 = cc in absurd (omega arith)
-one-said-degree (NoDegree why) (NoDegree other) e = ap NoDegree (one-refusal {A = ℕ} why other e)
+one-said-degree (NoDegree why) (NoDegree other) e = ap NoDegree (one-refusal ℕ why other e)
 
 one-said-arity : (r s : ArityAnswer) → saidArity r ≡ saidArity s → r ≡ s
 one-said-arity (Arity n) (Arity n′) e = ap Arity (cc)
 one-said-arity (Arity n) (NoArity why) e = let z : _≡_ {A = ℕ} 0 1 = cc in absurd (omega arith)
 one-said-arity (NoArity why) (Arity n) e = let z : _≡_ {A = ℕ} 0 1 = cc in absurd (omega arith)
-one-said-arity (NoArity why) (NoArity other) e = ap NoArity (one-refusal {A = ℕ} why other e)
+one-said-arity (NoArity why) (NoArity other) e = ap NoArity (one-refusal ℕ why other e)
 
 abbrev structOf : Answer Listing → Pair
 structOf (gives (pair lower higher degree)) = record { lower = lower; higher = higher; degree = degree }
@@ -48,7 +48,7 @@ one-said-pair : (r s : PairAnswer) → saidPair r ≡ saidPair s → r ≡ s
 one-said-pair (Listed p) (Listed q) e = ap Listed (one-pair p q e)
 one-said-pair (Listed p) (NoPair why) e = let z : _≡_ {A = ℕ} 0 1 = cc in absurd (omega arith)
 one-said-pair (NoPair why) (Listed p) e = let z : _≡_ {A = ℕ} 0 1 = cc in absurd (omega arith)
-one-said-pair (NoPair why) (NoPair other) e = ap NoPair (one-refusal {A = Listing} why other e)
+one-said-pair (NoPair why) (NoPair other) e = ap NoPair (one-refusal Listing why other e)
 
 -- THEOREM: any two answers that a promise allows are equal
 pub one-table : (table : List ℕ) (r s : TableAnswer) → IsTable table r → IsTable table s → r ≡ s

@@ -4,7 +4,7 @@ use mathlib.Core.Bool.{cond}
 use mathlib.Core.Option.{Option, some as just}
 use Prim.Native.Nat.{ℕ}
 use lib.Dec.{eqb}
-use Rattle.meaning.specs.Refusals.{Refusal as Given, refusal, numberOf, placeOf}
+use Rattle.meaning.specs.Refusals.{Refusal as Given}
 use Rattle.meaning.specs.Calls.{Answer, refused, gives, unless}
 use Rattle.refusal.specs.declared.Refusal.{Refusal}
 use Rattle.refusal.specs.declared.Refusal.the-variants.{Layout, Counts, Arity, Pair, Cut, Pattern, Heading, Room, Clash, NoForm, Overfull, Absent}
@@ -25,33 +25,30 @@ named n place =
     (cond (eqb n 10) (NoForm place)
     (cond (eqb n 11) Overfull Absent))))))))))
 
-named-told : (f : Refusal) → named (numberOf (told f)) (placeOf (told f)) ≡ f
-named-told Layout = refl
-named-told Counts = refl
-named-told (Arity symbol) = refl
-named-told (Pair index) = refl
-named-told Cut = refl
-named-told (Pattern node) = refl
-named-told (Heading node) = refl
-named-told Room = refl
-named-told (Clash node) = refl
-named-told (NoForm variable) = refl
-named-told Overfull = refl
-named-told Absent = refl
+module _ (A : Type 0) where
+  abbrev namedIn : Answer A → Refusal
+  namedIn (refused n place) = named n place
+  namedIn (gives a) = Absent
 
-module _ {A : Type 0} where
-  -- what the calls' answers say of a refusal
-  abbrev back : Answer A → Refusal
-  back (refused n place) = named n place
-  back (gives a) = Absent
+  named-told : (f : Refusal) → namedIn (refusedBy f) ≡ f
+  named-told Layout = refl
+  named-told Counts = refl
+  named-told (Arity symbol) = refl
+  named-told (Pair index) = refl
+  named-told Cut = refl
+  named-told (Pattern node) = refl
+  named-told (Heading node) = refl
+  named-told Room = refl
+  named-told (Clash node) = refl
+  named-told (NoForm variable) = refl
+  named-told Overfull = refl
+  named-told Absent = refl
 
   -- LAW: two refusals that say the same are the same
   pub one-refusal : (f g : Refusal) → _≡_ {A = Answer A} (refusedBy f) (refusedBy g) → f ≡ g
-  one-refusal f g e = sym (named-told f) ∙ ap back e ∙ named-told g
+  one-refusal f g e = sym (named-told f) ∙ ap namedIn e ∙ named-told g
 
+module _ {A : Type 0} where
   -- LAW: a call whose rows give a refusal is refused so
   pub unless-told : (f : Refusal) (o : Option Given) (a : A) → o ≡ just (told f) → unless o a ≡ refusedBy f
-  unless-told f o a e = ap (λ o. unless o a) e ∙ go (told f)
-    where
-      go : (g : Given) → unless (just g) a ≡ refused (numberOf g) (placeOf g)
-      go (refusal n place) = refl
+  unless-told f o a e = ap (λ o. unless o a) e

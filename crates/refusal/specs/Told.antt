@@ -1,7 +1,6 @@
 -- What each case of a refusal says: its number and its place.
-use Prim.Native.Nat.{ℕ}
-use Rattle.meaning.specs.Refusals.{Refusal as Given, refusal, numberOf, placeOf}
-use Rattle.meaning.specs.Calls.{Answer, refused}
+use Rattle.meaning.specs.Refusals.{Refusal as Given, refusal}
+use Rattle.meaning.specs.Calls.{Answer, refusedAs}
 use Rattle.refusal.specs.declared.Refusal.{Refusal}
 use Rattle.refusal.specs.declared.Refusal.the-variants.{Layout, Counts, Arity, Pair, Cut, Pattern, Heading, Room, Clash, NoForm, Overfull, Absent}
 
@@ -21,4 +20,4 @@ told Absent = refusal 14 0
 
 -- The answer of a call that is refused so.
 abbrev pub refusedBy : {A : Type 0} → Refusal → Answer A
-refusedBy f = refused (numberOf (told f)) (placeOf (told f))
+refusedBy f = refusedAs (told f)

@@ -17,7 +17,7 @@ use Rattle.meaning.proofs.Sound.{Passed, passed, length-pairsIn, length-arities
 use Rattle.meaning.proofs.Degrees.{degree-listed, degree-others}
 use Rattle.table.specs.Keys.{keyOf, pairKey}
 use Rattle.table.proofs.Rising.{Short, rises-key}
-use Rattle.table.proofs.Pairs.{pair-in}
+use Rattle.meaning.proofs.Bytes.{pair-in}
 use Rattle.table.proofs.Halving.{Rising, steps-rise}
 
 -- the key of pair k

@@ -14,36 +14,14 @@ use Rattle.theory.specs.Pairs.{pair}
 use Rattle.meaning.specs.File.{number, symbolCount, pairCount, pairAt, pairsAt, aritiesIn, pairsFrom, pairsIn}
 use Rattle.meaning.specs.Tables.{arityByte, pairStart}
 use Rattle.meaning.specs.Refusals.{unsound, badPair}
+use Rattle.meaning.proofs.Bytes.{pair-in}
 use Rattle.table.specs.Keys.{pairKey, keyBefore}
 use Rattle.table.proofs.Rising.{Short, good-pair}
-
--- pair k of n that begin at byte i
-pair-from : (file : List ℕ) (n i k : ℕ) → k < n → getD (pairsFrom file i n) k (pair 0 0 0) ≡ pairAt file (i + 6 * k)
-pair-from file zero i k l = absurd (not-suc-le-zero l)
-pair-from file (suc n) i zero l = let e : i ≡ i + 6 * 0 = omega arith in ap (pairAt file) e
-pair-from file (suc n) i (suc k) l =
-    let e : i + 6 + 6 * k ≡ i + 6 * suc k = omega arith in
-    pair-from file n (i + 6) k (omega arith) ∙ ap (pairAt file) e
-
--- LAW: pair k of a file is the one whose six bytes begin there
-pub pair-in : (file : List ℕ) (k : ℕ) → k < pairCount file → getD (pairsIn file) k (pair 0 0 0) ≡ pairAt file (pairStart file k)
-unfolding pairsIn
-pair-in file k l = pair-from file (pairCount file) (pairsAt (symbolCount file)) k l
-
--- LAW: symbol a's arity is its byte after the header
-pub arity-in : (file : List ℕ) (a : ℕ) → a < symbolCount file → getD (aritiesIn file) a 0 ≡ arityByte file a
-unfolding aritiesIn
-arity-in file a l = getD-take (symbolCount file) (drop 10 file) a 0 l ∙ getD-drop 10 file a 0
 
 -- LAW: the part of the file that is lent as its arities
 pub arities-part : (file : List ℕ) (s : ℕ) → s ≡ symbolCount file → take (10 + s - 10) (drop 10 file) ≡ aritiesIn file
 unfolding aritiesIn
 arities-part file s e = let n : 10 + s - 10 ≡ symbolCount file = omega arith in ap (λ n. take n (drop 10 file)) n
-
--- LAW: a file with room for as many arities as it has symbols has that many
-pub length-arities : (file : List ℕ) → pairsAt (symbolCount file) ≤ length file → length (aritiesIn file) ≡ symbolCount file
-unfolding aritiesIn
-length-arities file l = omega (arith, length-take (symbolCount file) (drop 10 file), length-drop 10 file)
 
 -- LAW: the key that the pair after pair k has to exceed
 pub key-next : (file : List ℕ) (k : ℕ) → k < pairCount file → keyBefore (pairsIn file) (k + 1) ≡ pairKey (pairAt file (pairStart file k))

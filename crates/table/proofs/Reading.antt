@@ -15,7 +15,7 @@ use Rattle.meaning.specs.Refusals.{SoundFile, row3, tableRows}
 use Rattle.meaning.specs.Tables.{arityByte, pairStart}
 use Rattle.meaning.proofs.First.{all-silent}
 use Rattle.meaning.proofs.Sound.{passed, length-aritiesIn}
-use Rattle.table.proofs.Pairs.{arity-in}
+use Rattle.meaning.proofs.Bytes.{arity-in}
 
 module _ (file : List ℕ) (sound : SoundFile file) where
   -- LAW: the table has as many symbols as the file says

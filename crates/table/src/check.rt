@@ -5,10 +5,11 @@ ghost use mathlib.Core.Bool.{not};
 ghost use Prim.Native.Nat.{_≤_};
 ghost use lib.ListN.{length};
 ghost use Rattle.meaning.specs.File.{symbolCount, pairCount, total, aritiesIn, pairsIn};
-ghost use Rattle.meaning.specs.Refusals.{row, at0, row1-offsets, row2, row3, row4, first, tableRows};
+ghost use Rattle.meaning.specs.Refusals.{row, at0, row1-offsets, row3, row4, first, tableRows};
 ghost use Rattle.table.specs.Found.{placeIn, found};
 use crate::number::number_at;
 use crate::rules::Place;
+use crate::rules::allowed;
 use crate::rules::high_arity;
 use crate::rules::key;
 use crate::rules::may_follow;
@@ -17,19 +18,6 @@ use refusal::Refusal;
 pub enum Checked {
     Sound,
     Refused(Refusal),
-}
-
-// Whether a table may have so many symbols and pairs.
-fn allowed(symbols: usize, pairs: usize) -> bool
-    ensures { λ r. ⌜ row2 symbols pairs ≡ row 2 (at0 (not r)) ⌝ }
-{
-    if symbols < 1 {
-        return false;
-    }
-    if symbols > 256 {
-        return false;
-    }
-    pairs <= 8192
 }
 
 // Whether the offsets and the total are what the counts ask for, and the file has that length.

@@ -4,13 +4,26 @@ ghost use mathlib.Core.Bool.{_&&_, not};
 ghost use Prim.Native.Nat.{_+_, _*_, _<_};
 ghost use lib.Dec.{ltb};
 ghost use Rattle.theory.specs.Pairs.{pair};
-ghost use Rattle.meaning.specs.Refusals.{row, row3, unsound};
+ghost use Rattle.meaning.specs.Refusals.{row, at0, row2, row3, unsound};
 ghost use Rattle.table.specs.Found.{placeIn};
 ghost use Rattle.table.specs.Keys.{keyOf};
 
 pub enum Place {
     At(usize),
     Nowhere,
+}
+
+// Whether a table may have so many symbols and pairs.
+pub fn allowed(symbols: usize, pairs: usize) -> bool
+    ensures { λ r. ⌜ row2 symbols pairs ≡ row 2 (at0 (not r)) ⌝ }
+{
+    if symbols < 1 {
+        return false;
+    }
+    if symbols > 256 {
+        return false;
+    }
+    pairs <= 8192
 }
 
 // The first symbol whose arity is too high.

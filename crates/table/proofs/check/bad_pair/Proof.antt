@@ -17,7 +17,8 @@ use Rattle.meaning.specs.Refusals.{row, row4, badPair}
 use Rattle.meaning.proofs.First.{least-on, least-at}
 use Rattle.meaning.proofs.Sound.{length-pairsIn}
 use Rattle.table.specs.Keys.{keyBefore}
-use Rattle.table.proofs.Pairs.{length-arities, key-next, good-read}
+use Rattle.meaning.proofs.Sound.{length-arities}
+use Rattle.table.proofs.Pairs.{key-next, good-read}
 use Rattle.table.proofs.check.bad_pair.Statement.{statement}
 use Rattle.table.proofs.check.bad_pair.Tie as tie
 

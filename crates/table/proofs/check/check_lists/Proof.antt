@@ -10,7 +10,8 @@ use Rattle.meaning.specs.File.{number, aritiesIn, pairsIn}
 use Rattle.meaning.specs.Refusals.{row, row3, row4, first}
 use Rattle.meaning.proofs.Sound.{length-pairsIn}
 use Rattle.table.specs.Found.{placeIn}
-use Rattle.table.proofs.Pairs.{arities-part, length-arities, number-small}
+use Rattle.meaning.proofs.Sound.{length-arities}
+use Rattle.table.proofs.Pairs.{arities-part, number-small}
 use Rattle.table.proofs.Rows.{row3-inside, row4-inside}
 use Rattle.table.proofs.check.check_lists.Statement.{statement}
 use Rattle.table.proofs.check.check_lists.Tie as tie

@@ -6,7 +6,7 @@ use native.Mathlib.Omega.{arith}
 use denote.Ref.{now}
 use Rattle.meaning.specs.File.{pairAt}
 use Rattle.meaning.specs.Tables.{pairStart}
-use Rattle.table.proofs.Pairs.{pair-in}
+use Rattle.meaning.proofs.Bytes.{pair-in}
 use Rattle.table.proofs.Reading.{pair-inside, size-is}
 use Rattle.table.proofs.read.pair_at.Statement.{statement}
 use Rattle.table.proofs.read.pair_at.Tie as tie

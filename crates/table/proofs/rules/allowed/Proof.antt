@@ -7,8 +7,8 @@ use native.Mathlib.Decide.{decLt}
 use native.Mathlib.Omega.{arith}
 use lib.Dec.{leb}
 use Rattle.meaning.specs.Refusals.{row, at0, outside, row2}
-use Rattle.table.proofs.check.allowed.Statement.{statement}
-use Rattle.table.proofs.check.allowed.Tie as tie
+use Rattle.table.proofs.rules.allowed.Statement.{statement}
+use Rattle.table.proofs.rules.allowed.Tie as tie
 
 -- with nothing below the range, only the upper bound is tested
 at-most : (high n : ℕ) → outside 0 high n ≡ not (leb n high)

@@ -1,0 +1,2 @@
+-- What is proved of matching: laws that the proofs of functions cite.
+pub mod Standing

@@ -1,0 +1,2 @@
+// The match of a pattern and a heading at a cut.
+pub mod position;

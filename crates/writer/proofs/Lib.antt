@@ -1,0 +1,9 @@
+-- Laws that the proofs of functions cite, here and in the crates above.
+--
+-- lists of numbers and of bytes
+pub mod Numbers
+pub mod Bytes
+-- what the functions' steps come to
+pub mod Passing
+pub mod Rows
+pub mod Writer
