@@ -3,10 +3,9 @@
 use mathlib.Core.Path.{_≡_, refl, sym, ap, _∙_}
 use mathlib.Core.List.{List}
 use Prim.Native.Nat.{ℕ}
-use native.Mathlib.Omega.{arith}
 use Rattle.theory.specs.Pairs.{Pair as Listing, pair}
 use Rattle.meaning.specs.Calls.{Answer, refused, gives, Yes}
-use Rattle.refusal.proofs.One.{one-refusal}
+use Rattle.refusal.proofs.One.{one-refusal, gives-none}
 use Rattle.table.specs.Read.{pairIn}
 use Rattle.table.specs.declared.read.Pair.{Pair}
 use Rattle.headings.specs.declared.tables.TableAnswer.{TableAnswer}
@@ -21,20 +20,20 @@ use Rattle.headings.specs.Tables.{saidTable, IsTable, saidDegree, Symbol
 
 one-said-table : (r s : TableAnswer) → saidTable r ≡ saidTable s → r ≡ s
 one-said-table Table Table e = refl
-one-said-table Table (NoTable why) e = let z : _≡_ {A = ℕ} 0 1 = cc in absurd (omega arith)
-one-said-table (NoTable why) Table e = let z : _≡_ {A = ℕ} 0 1 = cc in absurd (omega arith)
+one-said-table Table (NoTable why) e = absurd (gives-none why _ (sym e))
+one-said-table (NoTable why) Table e = absurd (gives-none why _ e)
 one-said-table (NoTable why) (NoTable other) e = ap NoTable (one-refusal Yes why other e)
 
 pub one-said-degree : (r s : DegreeAnswer) → saidDegree r ≡ saidDegree s → r ≡ s
 one-said-degree (Degree d) (Degree d′) e = ap Degree (cc)
-one-said-degree (Degree d) (NoDegree why) e = let z : _≡_ {A = ℕ} 0 1 = cc in absurd (omega arith)
-one-said-degree (NoDegree why) (Degree d) e = let z : _≡_ {A = ℕ} 0 1 = cc in absurd (omega arith)
+one-said-degree (Degree d) (NoDegree why) e = absurd (gives-none why _ (sym e))
+one-said-degree (NoDegree why) (Degree d) e = absurd (gives-none why _ e)
 one-said-degree (NoDegree why) (NoDegree other) e = ap NoDegree (one-refusal ℕ why other e)
 
 one-said-arity : (r s : ArityAnswer) → saidArity r ≡ saidArity s → r ≡ s
 one-said-arity (Arity n) (Arity n′) e = ap Arity (cc)
-one-said-arity (Arity n) (NoArity why) e = let z : _≡_ {A = ℕ} 0 1 = cc in absurd (omega arith)
-one-said-arity (NoArity why) (Arity n) e = let z : _≡_ {A = ℕ} 0 1 = cc in absurd (omega arith)
+one-said-arity (Arity n) (NoArity why) e = absurd (gives-none why _ (sym e))
+one-said-arity (NoArity why) (Arity n) e = absurd (gives-none why _ e)
 one-said-arity (NoArity why) (NoArity other) e = ap NoArity (one-refusal ℕ why other e)
 
 abbrev structOf : Answer Listing → Pair
@@ -46,8 +45,8 @@ one-pair p q e = ap structOf e
 
 one-said-pair : (r s : PairAnswer) → saidPair r ≡ saidPair s → r ≡ s
 one-said-pair (Listed p) (Listed q) e = ap Listed (one-pair p q e)
-one-said-pair (Listed p) (NoPair why) e = let z : _≡_ {A = ℕ} 0 1 = cc in absurd (omega arith)
-one-said-pair (NoPair why) (Listed p) e = let z : _≡_ {A = ℕ} 0 1 = cc in absurd (omega arith)
+one-said-pair (Listed p) (NoPair why) e = absurd (gives-none why _ (sym e))
+one-said-pair (NoPair why) (Listed p) e = absurd (gives-none why _ e)
 one-said-pair (NoPair why) (NoPair other) e = ap NoPair (one-refusal Listing why other e)
 
 -- THEOREM: any two answers that a promise allows are equal

@@ -1,2 +1,3 @@
 -- What each public call promises, a file for each module of calls.
 pub mod Tables
+pub mod Writing

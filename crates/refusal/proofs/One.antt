@@ -4,8 +4,9 @@ use mathlib.Core.Bool.{cond}
 use mathlib.Core.Option.{Option, some as just}
 use Prim.Native.Nat.{ℕ}
 use lib.Dec.{eqb}
-use Rattle.meaning.specs.Refusals.{Refusal as Given}
-use Rattle.meaning.specs.Calls.{Answer, refused, gives, unless}
+use native.Mathlib.Omega.{arith}
+use Rattle.meaning.specs.Refusals.{Refusal as Given, refusal}
+use Rattle.meaning.specs.Calls.{Answer, refused, gives, refusedAs, unless}
 use Rattle.refusal.specs.declared.Refusal.{Refusal}
 use Rattle.refusal.specs.declared.Refusal.the-variants.{Layout, Counts, Arity, Pair, Cut, Pattern, Heading, Room, Clash, NoForm, Overfull, Absent}
 use Rattle.refusal.specs.Told.{told, refusedBy}
@@ -52,3 +53,10 @@ module _ {A : Type 0} where
   -- LAW: a call whose rows give a refusal is refused so
   pub unless-told : (f : Refusal) (o : Option Given) (a : A) → o ≡ just (told f) → unless o a ≡ refusedBy f
   unless-told f o a e = ap (λ o. unless o a) e
+
+  -- LAW: a refusal gives nothing else
+  pub gives-none : (f : Refusal) (a : A) → refusedBy f ≡ gives a → ⊥
+  gives-none f a e = go (told f) e
+    where
+      go : (g : Given) → refusedAs g ≡ gives a → ⊥
+      go (refusal n place) e = let z : _≡_ {A = ℕ} 0 1 = cc in omega arith
