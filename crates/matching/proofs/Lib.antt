@@ -1,2 +1,5 @@
--- What is proved of matching: laws that the proofs of functions cite.
+-- Laws that the proofs of functions cite, here and in the crates above.
+pub mod Passing
+pub mod Faced
+pub mod Gathering
 pub mod Standing

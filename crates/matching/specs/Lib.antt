@@ -1,2 +1,4 @@
 -- Names that contracts use. The match itself and what it answers stand in the crates theory and meaning.
+pub mod Faced
+pub mod Gathering
 pub mod Facing

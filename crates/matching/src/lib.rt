@@ -1,2 +1,4 @@
 // The match of a pattern and a heading at a cut.
+pub mod faces;
+pub mod gather;
 pub mod position;

@@ -12,13 +12,13 @@ use table::degree::degree;
 use table::near::near;
 use table::read::symbol_count;
 
-fn lesser(a: u16, b: u16) -> u16
+pub fn lesser(a: u16, b: u16) -> u16
     ensures { λ r. ⌜ r ≡ min a b ⌝ }
 {
     if a < b { a } else { b }
 }
 
-fn greater(a: u16, b: u16) -> u16
+pub fn greater(a: u16, b: u16) -> u16
     ensures { λ r. ⌜ r ≡ max a b ⌝ }
 {
     if a < b { b } else { a }

@@ -1,12 +1,12 @@
 // The cases, each a line: what is asked, and the answer.
 ghost use Prim.Native.Nat.{_<_, _≤_};
 ghost use lib.ListN.{length};
+use crate::say;
 use headings::tables::arity_of;
 use headings::tables::is_table;
 use headings::tables::pair_of;
 use headings::tables::symbol_degree;
 use headings::writing::write_table;
-use crate::say;
 
 // Table T, example 1 of the published definition in numbers.
 const T: [u8; 66] = [
