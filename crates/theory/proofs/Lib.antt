@@ -1,7 +1,10 @@
--- What is proved of the definitions in specs/.
+-- What is proved of the definitions in specs/, in an order in which it can be read.
+--
+-- the degree, read off lists and off faces
 pub mod Lemmas
 pub mod Flat
 pub mod Score
+-- matchers, sets, forms and degrees
 pub mod Relabel
 pub mod Draw
 pub mod Matchers
@@ -9,16 +12,19 @@ pub mod Forms
 pub mod Theorems
 pub mod Verdict
 pub mod Corollaries
+pub mod More
 pub mod Place
-pub mod Growing
 pub mod Present
 pub mod Taken
-pub mod More
-pub mod Rows
+-- lists and the trees that they write
 pub mod Steps
 pub mod Reading
 pub mod Decoding
+-- tables of listed pairs
+pub mod Pairs
+-- for the proofs of code: loops along the pattern's list and the heading's
+pub mod Rows
 pub mod Along
 pub mod Gathered
+pub mod Growing
 pub mod Noted
-pub mod Pairs

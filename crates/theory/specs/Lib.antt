@@ -1,6 +1,9 @@
--- Matching modulo proximity: the definitions of source document 001, in document 01's words. What is proved of them stands in proofs/.
+-- Matching modulo proximity, as published: ground terms and patterns as trees (`Tree`), a table and the degree of two terms (`Table`, `Pairs`),
+-- what faces what (`Faces`), the sets, the degrees and what a match comes to (`Match`, `Verdict`), and how lists of numbers write trees (`Read`,
+-- `Decode`, `Stands`). `Least` has the words for least and most. What is proved of all this stands in proofs/.
 pub mod Tree
 pub mod Table
+pub mod Pairs
 pub mod Least
 pub mod Faces
 pub mod Match
@@ -8,4 +11,3 @@ pub mod Verdict
 pub mod Read
 pub mod Decode
 pub mod Stands
-pub mod Pairs
