@@ -1,3 +1,4 @@
 -- What each public call promises, a file for each module of calls.
 pub mod Tables
+pub mod Terms
 pub mod Writing

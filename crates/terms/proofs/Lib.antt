@@ -4,3 +4,4 @@ pub mod Nodes
 pub mod Steps
 pub mod Ends
 pub mod Readings
+pub mod Degrees

@@ -1,3 +1,4 @@
 pub mod Kinds
 pub mod Walks
 pub mod Readings
+pub mod Degrees
