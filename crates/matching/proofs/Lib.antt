@@ -3,3 +3,4 @@ pub mod Passing
 pub mod Faced
 pub mod Gathering
 pub mod Standing
+pub mod Positions

@@ -2,3 +2,4 @@
 pub mod Faced
 pub mod Gathering
 pub mod Facing
+pub mod Variable

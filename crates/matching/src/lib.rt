@@ -2,3 +2,4 @@
 pub mod faces;
 pub mod gather;
 pub mod position;
+pub mod variable;
