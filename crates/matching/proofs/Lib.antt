@@ -4,3 +4,7 @@ pub mod Faced
 pub mod Gathering
 pub mod Standing
 pub mod Positions
+pub mod Notes
+pub mod Spans
+pub mod Searching
+pub mod Meeting

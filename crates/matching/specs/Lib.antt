@@ -3,3 +3,4 @@ pub mod Faced
 pub mod Gathering
 pub mod Facing
 pub mod Variable
+pub mod Pack

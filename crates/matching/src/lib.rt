@@ -1,5 +1,6 @@
 // The match of a pattern and a heading at a cut.
 pub mod faces;
 pub mod gather;
+pub mod pack;
 pub mod position;
 pub mod variable;

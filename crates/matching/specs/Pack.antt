@@ -1,0 +1,57 @@
+-- What packing the variables of a pattern comes to.
+use mathlib.Core.Path.{_≡_}
+use mathlib.Core.List.{List, [], _∷_, _++_}
+use mathlib.Core.Bool.{true, false, cond}
+use mathlib.Core.Option.{none}
+use Prim.Native.Nat.{ℕ, _+_, _-_, _*_, _≤_, _<_, min}
+use lib.ListN.{length}
+use Rattle.theory.specs.Table.{Table}
+use Rattle.theory.specs.Faces.{Face, facing}
+use Rattle.theory.specs.Match.{inSet, formed, clash, lowestAt, highestAt, lowestOf, highestOf}
+use Rattle.theory.specs.Read.{reading, whole}
+use Rattle.theory.specs.Stands.{Noted}
+use Rattle.meaning.specs.Limits.{setWords, variableCount, spanWidth}
+use Rattle.meaning.specs.File.{tableIn}
+use Rattle.meaning.specs.Refusals.{SoundFile}
+use Rattle.meaning.specs.Packing.{through, order, countOf, packedCount, packedSpans, allWords, packedSets}
+use Rattle.meaning.specs.Calls.{zeros, facesIn}
+use Rattle.meaning.specs.Search.{variableWorth, unformed, worst}
+use Rattle.meaning.specs.Over.{over}
+use Rattle.matching.specs.declared.pack.Search.{Search}
+
+-- What packing starts from: the lists are read whole over the table, nothing clashes, and it is noted where the subterms stand that face the
+-- pattern's variables.
+pub record Packable (table pattern heading : List ℕ) (cut : ℕ) (starts sizes : List ℕ) : Type 0 where
+  pub sound : SoundFile table
+  pub pattern-reads : reading (tableIn table) true pattern ≡ whole
+  pub heading-reads : reading (tableIn table) false heading ≡ whole
+  pub positive : 0 < cut
+  pub clear : clash (tableIn table) cut (facesIn table pattern heading) ≡ none
+  pub noted : Noted heading starts sizes (facesIn table pattern heading)
+
+-- The lists that are lent are long enough.
+pub record Room (pattern heading starts sizes ownStarts ownSizes spans sets : List ℕ) : Type 0 where
+  pub of-starts : length pattern ≤ length starts
+  pub of-sizes : length pattern ≤ length sizes
+  pub of-own-starts : length pattern ≤ length ownStarts
+  pub of-own-sizes : length pattern ≤ length ownSizes
+  pub of-spans : spanWidth * variableCount ≤ length spans
+  pub of-sets : setWords * length heading ≤ length sets
+
+-- Variable v is packed, behind all that was packed before. The primed buffers are the later ones.
+pub record PackedNext (T : Table) (cut : ℕ) (fs : List Face) (v : ℕ) (before after : Search) (spans spans′ sets sets′ : List ℕ) : Type 0 where
+  pub packed : after .packed ≡ before .packed + countOf fs v
+  pub lacking : after .lacking ≡ cond (formed T cut (facing v fs)) (before .lacking) (min (before .lacking) v)
+  pub lowest : after .lowest ≡ min (before .lowest) (variableWorth (lowestAt T cut) fs v)
+  pub highest : after .highest ≡ min (before .highest) (variableWorth (highestAt T cut) fs v)
+  pub span : spans′ ≡ over spans (spanWidth * v) (before .packed ∷ countOf fs v ∷ [])
+  pub words : sets′ ≡ over sets (setWords * before .packed) (allWords (through (countOf fs v) (λ k. inSet T cut (facing v fs) k ∷ [])))
+
+-- All variables are packed, in the order in which they first stand. These are the spans later, and the sets before and later.
+pub record PackedBy (table pattern heading : List ℕ) (cut : ℕ) (r : Search) (spans sets sets′ : List ℕ) : Type 0 where
+  pub packed : r .packed ≡ packedCount (facesIn table pattern heading)
+  pub lacking : r .lacking ≡ worst (unformed (tableIn table) cut (facesIn table pattern heading)) (order (facesIn table pattern heading))
+  pub lowest : r .lowest ≡ lowestOf (tableIn table) cut (facesIn table pattern heading)
+  pub highest : r .highest ≡ highestOf (tableIn table) cut (facesIn table pattern heading)
+  pub spans-are : spans ≡ packedSpans (facesIn table pattern heading) ++ zeros (length spans - length (packedSpans (facesIn table pattern heading)))
+  pub sets-are : sets′ ≡ over sets 0 (packedSets (tableIn table) cut (facesIn table pattern heading))

@@ -1,0 +1,130 @@
+// All variables of the pattern.
+ghost use mathlib.Core.Path.{_≡_};
+ghost use Prim.Native.Nat.{_+_, _<_, _≤_};
+ghost use lib.ListN.{length};
+ghost use Rattle.theory.specs.Least.{least as leastOf};
+ghost use Rattle.meaning.specs.Limits.{variableCount};
+ghost use Rattle.meaning.specs.File.{tableIn};
+ghost use Rattle.meaning.specs.Packing.{countOf};
+ghost use Rattle.meaning.specs.Calls.{zeros, facesIn};
+ghost use Rattle.meaning.specs.Search.{symbolWorth};
+ghost use Rattle.matching.specs.Pack.{Packable, Room, PackedNext, PackedBy};
+use crate::gather::gather;
+use crate::position::lesser;
+use crate::variable::pack_variable;
+use table::read::symbol_count;
+use terms::kind::Kind;
+use terms::kind::kind_of;
+
+pub struct Search {
+    // how many positions are packed
+    pub packed: usize,
+    // the least variable without a form, 32 if each has one
+    pub lacking: u16,
+    // the least that a symbol or a variable brings, at worst and at best
+    pub lowest: u16,
+    pub highest: u16,
+}
+
+// Packs variable v, which stands in the pattern, behind what is packed already.
+fn pack_next(
+    table: &[u8],
+    pattern: &[u16],
+    heading: &[u16],
+    cut: u16,
+    starts: &[u16],
+    sizes: &[u16],
+    v: u16,
+    search: Search,
+    own_starts: &mut [u16],
+    own_sizes: &mut [u16],
+    spans: &mut [u16],
+    sets: &mut [u64],
+) -> Search
+    requires { ⌜ Packable (now table) (now pattern) (now heading) cut (now starts) (now sizes) ⌝ }
+    requires { ⌜ Room (now pattern) (now heading) (now starts) (now sizes) (now «own_starts») (now «own_sizes») (now spans) (now sets) ⌝ }
+    requires { ⌜ (v < variableCount) × (0 < countOf (facesIn (now table) (now pattern) (now heading)) v) ⌝ }
+    requires { ⌜ search .packed + countOf (facesIn (now table) (now pattern) (now heading)) v ≤ length (now heading) ⌝ }
+    ensures { λ r. ⌜ PackedNext (tableIn (now (table .entry))) cut (facesIn (now (table .entry)) (now (pattern .entry)) (now (heading .entry))) v search r (now (spans .entry)) (now (spans .exit)) (now (sets .entry)) (now (sets .exit)) ⌝ }
+{
+    let count = gather(pattern, starts, sizes, v, own_starts, own_sizes);
+    let positions = own_sizes[0];
+    let span = 2 * v as usize;
+    spans[span] = search.packed as u16;
+    spans[span + 1] = positions;
+    let found = pack_variable(
+        table,
+        heading,
+        own_starts,
+        own_sizes,
+        count,
+        cut,
+        search.packed,
+        sets,
+    );
+    Search {
+        packed: search.packed + positions as usize,
+        lacking: if found.formed {
+            search.lacking
+        } else {
+            lesser(search.lacking, v)
+        },
+        lowest: lesser(search.lowest, found.lowest),
+        highest: lesser(search.highest, found.highest),
+    }
+}
+
+// Packs every variable of the pattern, in the order in which they first stand. The two lists of its own are lent for the notes of one variable
+// at a time.
+pub fn pack(
+    table: &[u8],
+    pattern: &[u16],
+    heading: &[u16],
+    cut: u16,
+    starts: &[u16],
+    sizes: &[u16],
+    least: u16,
+    own_starts: &mut [u16],
+    own_sizes: &mut [u16],
+    spans: &mut [u16],
+    sets: &mut [u64],
+) -> Search
+    requires { ⌜ Packable (now table) (now pattern) (now heading) cut (now starts) (now sizes) ⌝ }
+    requires { ⌜ Room (now pattern) (now heading) (now starts) (now sizes) (now «own_starts») (now «own_sizes») (now spans) (now sets) ⌝ }
+    requires { ⌜ least ≡ leastOf (symbolWorth (tableIn (now table))) (facesIn (now table) (now pattern) (now heading)) ⌝ }
+    requires { ⌜ now spans ≡ zeros (length (now spans)) ⌝ }
+    ensures { λ r. ⌜ PackedBy (now (table .entry)) (now (pattern .entry)) (now (heading .entry)) cut r (now (spans .exit)) (now (sets .entry)) (now (sets .exit)) ⌝ }
+{
+    let symbols = symbol_count(table);
+    let mut search = Search {
+        packed: 0,
+        lacking: 32,
+        lowest: least,
+        highest: least,
+    };
+    for i in 0..pattern.len() {
+        match kind_of(symbols, pattern[i]) {
+            Kind::Variable(v) => {
+                // a variable that was met before has a span, with one position at least
+                if spans[2 * v as usize + 1] == 0 {
+                    search = pack_next(
+                        table,
+                        pattern,
+                        heading,
+                        cut,
+                        starts,
+                        sizes,
+                        v,
+                        search,
+                        own_starts,
+                        own_sizes,
+                        spans,
+                        sets,
+                    );
+                }
+            }
+            _ => {}
+        }
+    }
+    search
+}
