@@ -6,12 +6,28 @@ use headings::tables::TableAnswer;
 use refusal::Refusal;
 use writer::Writing;
 
-pub fn text(words: &[u8]) {
+fn text(words: &[u8]) {
     io::write_all(1, words);
 }
 
-pub fn number(n: u64) {
+fn number(n: u64) {
     io::print_decimal(1, n);
+}
+
+// What is asked, by its number.
+pub fn numbered(what: &[u8], n: usize) {
+    text(what);
+    number(n as u64);
+    text(b": ");
+}
+
+pub fn whether(what: &[u8], so: bool) {
+    text(what);
+    if so {
+        text(b"yes\n");
+    } else {
+        text(b"no\n");
+    }
 }
 
 fn refused(why: Refusal) {

@@ -1,4 +1,4 @@
--- T keeps its length while the cut goes up to it.
+-- Each row is below their count.
 use borrow.Author.Needs.{needs}
 use Prim.Native.Nat.{_≤_, _-_}
 use mathlib.Core.Path.{_≡_}

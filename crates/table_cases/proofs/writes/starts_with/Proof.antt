@@ -3,8 +3,8 @@ use borrow.Author.Needs.{needs}
 use Prim.Native.Nat.{_≤_, _-_}
 use mathlib.Core.Path.{_≡_}
 use lib.ListN.{length}
-use Rattle.table_cases.proofs.cases.starts_with.Statement.{statement}
-use Rattle.table_cases.proofs.cases.starts_with.Tie as tie
+use Rattle.table_cases.proofs.writes.starts_with.Statement.{statement}
+use Rattle.table_cases.proofs.writes.starts_with.Tie as tie
 
 abbrev Inv-loop : tie.InvT-loop
 Inv-loop bytes front i₀ i-end i = (i-end ≡ length front) × (length front ≤ length bytes)

@@ -3,14 +3,14 @@ use borrow.Author.Needs.{needs}
 use Prim.Native.Nat.{_≤_, _-_}
 use mathlib.Core.Path.{_≡_}
 use lib.ListN.{length}
-use Rattle.table_cases.proofs.cases.same_byte.Statement.{statement}
-use Rattle.table_cases.proofs.cases.same_byte.Tie as tie
+use Rattle.table_cases.proofs.writes.all_sevens.Statement.{statement}
+use Rattle.table_cases.proofs.writes.all_sevens.Tie as tie
 
 abbrev Inv-loop : tie.InvT-loop
-Inv-loop bytes byte i₀ i-end i = i-end ≡ length bytes
+Inv-loop bytes i₀ i-end i = i-end ≡ length bytes
 
 abbrev μ-loop : tie.MeasureT-loop
-μ-loop bytes byte i₀ i-end i = i-end - i
+μ-loop bytes i₀ i-end i = i-end - i
 
 loop-holds : tie.Need-loop-holds Inv-loop μ-loop
 loop-holds c = search needs
@@ -33,8 +33,8 @@ loop-again c = search needs
 returns-2 : tie.Need-returns-2 Inv-loop μ-loop
 returns-2 c = search needs
 
-pub same-byte-spec : {M : Type 1} → statement M
-same-byte-spec =
+pub all-sevens-spec : {M : Type 1} → statement M
+all-sevens-spec =
     tie.close
     (tie.spec
     Inv-loop
