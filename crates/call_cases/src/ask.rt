@@ -1,0 +1,18 @@
+// The calls, a kind of case for each.
+use crate::input::Asked;
+use crate::say;
+use headings::tables::symbol_degree;
+use headings::term::degree_of_headings;
+use headings::term::nearer;
+use headings::term::subterm;
+
+pub fn ask<'a>(asked: Asked, table: &[u8], first: &[u16], second: &'a [u16], third: &'a [u16]) {
+    let kind = asked.kind;
+    match kind {
+        1 => say::degree(symbol_degree(table, asked.x, asked.y)),
+        2 => say::degree(degree_of_headings(table, first, second)),
+        3 => say::part(b" part ", subterm(table, first, asked.x as usize)),
+        4 => say::part(b" nearer ", nearer(table, first, second, third)),
+        _ => say::text(b" no such kind\n"),
+    }
+}
