@@ -20,6 +20,10 @@ module _ (table : List ℕ) (r : Checked) (e : found r ≡ first (tableRows tabl
   pub refused-by : (why : Refusal) → r ≡ Refused why → first (tableRows table) ≡ just (told why)
   refused-by why q = sym e ∙ ap found q
 
+-- LAW: a refusal given by the first rows is given by all
+pub stays-refused : (rows more : List Row) (g : Given) → first rows ≡ just g → first (rows ++ more) ≡ just g
+stays-refused rows more (refusal n place) e = first-stays rows more n place e
+
 module _ {A : Type 0} (a : A) (why : Refusal) where
   -- LAW: the refusal that a call's rows give is what it says
   pub says : (rows : List Row) → first rows ≡ just (told why) → refusedBy why ≡ unless (first rows) a
@@ -27,7 +31,4 @@ module _ {A : Type 0} (a : A) (why : Refusal) where
 
   -- LAW: .. also where more rows follow
   pub says-early : (rows more : List Row) → first rows ≡ just (told why) → refusedBy why ≡ unless (first (rows ++ more)) a
-  says-early rows more e = says (rows ++ more) (stays (told why) e)
-    where
-      stays : (g : Given) → first rows ≡ just g → first (rows ++ more) ≡ just g
-      stays (refusal n place) e = first-stays rows more n place e
+  says-early rows more e = says (rows ++ more) (stays-refused rows more (told why) e)

@@ -8,3 +8,5 @@ pub mod Notes
 pub mod Spans
 pub mod Searching
 pub mod Meeting
+pub mod Clearing
+pub mod Searched

@@ -30,7 +30,7 @@ use Rattle.meaning.proofs.Packing.{room}
 use Rattle.terms.specs.Kinds.{kindOf}
 use Rattle.terms.specs.declared.kind.Kind.the-variants.{Symbol, Variable, Neither}
 use Rattle.terms.proofs.Nodes.{kind-variable}
-use Rattle.matching.specs.Pack.{Packable, PackedNext, PackedBy}
+use Rattle.matching.specs.Pack.{Packable, PackedNext, PackedAll}
 use Rattle.matching.specs.declared.pack.Search.{Search}
 use Rattle.matching.proofs.Notes.{reads, nodes-face}
 use Rattle.matching.proofs.Spans.{spansIn, span-none, span-some}
@@ -119,8 +119,8 @@ module _ {table pattern heading : List ℕ} {cut : ℕ} {starts sizes : List ℕ
 
   module _ {i n : ℕ} {before : List ℕ} {search : Search} {spans sets : List ℕ} (h : Done i n before search spans sets) where
     -- LAW: at the pattern's end
-    pub along-all : length pattern ≤ i → PackedBy table pattern heading cut search spans before sets
-    along-all l = searched-all table pattern heading cut (rw (take-all i fs (omega (arith, nodes-face k .many))) at h)
+    pub along-all : length pattern ≤ i → PackedAll T cut fs search spans before sets
+    along-all l = searched-all T cut fs n before (rw (take-all i fs (omega (arith, nodes-face k .many))) at h)
 
     module _ (l : i < length pattern) where
       same-order : order (take (i + 1) fs) ≡ order (take i fs) → Done (i + 1) n before search spans sets

@@ -13,9 +13,8 @@ use Rattle.theory.specs.Faces.{Face, facing}
 use Rattle.theory.specs.Match.{formed, lowestAt, highestAt}
 use Rattle.theory.proofs.Lemmas.{least-top}
 use Rattle.meaning.specs.Limits.{setWords, variableCount, spanWidth}
-use Rattle.meaning.specs.File.{tableIn}
 use Rattle.meaning.specs.Packing.{through, order, countOf, sum, among, packedCount, setsOf, allWords, packedSets}
-use Rattle.meaning.specs.Calls.{zeros, facesIn}
+use Rattle.meaning.specs.Calls.{zeros}
 use Rattle.meaning.specs.Search.{symbolWorth, variableWorth, unformed, worst}
 use Rattle.meaning.specs.Over.{over}
 use Rattle.meaning.proofs.Lacking.{worst-bad, worst-good}
@@ -24,7 +23,7 @@ use Rattle.meaning.proofs.Over.{over-none, over-next}
 use Rattle.meaning.proofs.Packing.{one}
 use Rattle.meaning.proofs.Rated.{least-last, lowestOf-apart, highestOf-apart}
 use Rattle.meaning.proofs.Words.{words-append, sets-last, words-many}
-use Rattle.matching.specs.Pack.{PackedNext, PackedBy}
+use Rattle.matching.specs.Pack.{PackedNext, PackedAll}
 use Rattle.matching.specs.declared.pack.Search.{Search}
 use Rattle.matching.proofs.Spans.{spansIn, spans-none, spans-next, spans-all}
 
@@ -82,19 +81,15 @@ module _ (T : Table) (cut : ℕ) (fs : List Face) (n : ℕ) (before : List ℕ) 
       lacking true e = h .lacks ∙ inv (worst-good (unformed T cut fs) vs v (ap not e))
       lacking false e = ap (λ n. min n v) (h .lacks) ∙ inv (worst-bad (unformed T cut fs) vs v (ap not e))
 
--- LAW: all are packed
-pub searched-all : (table pattern heading : List ℕ) (cut : ℕ) {n : ℕ} {before : List ℕ} {search : Search} {spans sets : List ℕ}
-    → Searched (tableIn table) cut (facesIn table pattern heading) (order (facesIn table pattern heading)) n before search spans sets
-    → PackedBy table pattern heading cut search spans before sets
-unfolding packedCount packedSets
-searched-all table pattern heading cut {n} h =
-    let T = tableIn table in
-    let fs = facesIn table pattern heading in
-    record {
-      packed = h .many;
-      lacking = h .lacks;
-      lowest = h .low ∙ inv (lowestOf-apart T cut fs);
-      highest = h .high ∙ inv (highestOf-apart T cut fs);
-      spans-are = spans-all fs n (h .spanned);
-      sets-are = h .words;
-    }
+  -- LAW: all are packed
+  pub searched-all : {search : Search} {spans sets : List ℕ} → Searched T cut fs (order fs) n before search spans sets → PackedAll T cut fs search spans before sets
+  unfolding packedCount packedSets
+  searched-all h =
+      record {
+        packed = h .many;
+        lacking = h .lacks;
+        lowest = h .low ∙ inv (lowestOf-apart T cut fs);
+        highest = h .high ∙ inv (highestOf-apart T cut fs);
+        spans-are = spans-all fs n (h .spanned);
+        sets-are = h .words;
+      }

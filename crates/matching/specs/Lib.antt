@@ -4,3 +4,4 @@ pub mod Gathering
 pub mod Facing
 pub mod Variable
 pub mod Pack
+pub mod Outcomes

@@ -48,10 +48,10 @@ pub record PackedNext (T : Table) (cut : ℕ) (fs : List Face) (v : ℕ) (before
   pub words : sets′ ≡ over sets (setWords * before .packed) (allWords (through (countOf fs v) (λ k. inSet T cut (facing v fs) k ∷ [])))
 
 -- All variables are packed, in the order in which they first stand. These are the spans later, and the sets before and later.
-pub record PackedBy (table pattern heading : List ℕ) (cut : ℕ) (r : Search) (spans sets sets′ : List ℕ) : Type 0 where
-  pub packed : r .packed ≡ packedCount (facesIn table pattern heading)
-  pub lacking : r .lacking ≡ worst (unformed (tableIn table) cut (facesIn table pattern heading)) (order (facesIn table pattern heading))
-  pub lowest : r .lowest ≡ lowestOf (tableIn table) cut (facesIn table pattern heading)
-  pub highest : r .highest ≡ highestOf (tableIn table) cut (facesIn table pattern heading)
-  pub spans-are : spans ≡ packedSpans (facesIn table pattern heading) ++ zeros (length spans - length (packedSpans (facesIn table pattern heading)))
-  pub sets-are : sets′ ≡ over sets 0 (packedSets (tableIn table) cut (facesIn table pattern heading))
+pub record PackedAll (T : Table) (cut : ℕ) (fs : List Face) (r : Search) (spans sets sets′ : List ℕ) : Type 0 where
+  pub packed : r .packed ≡ packedCount fs
+  pub lacking : r .lacking ≡ worst (unformed T cut fs) (order fs)
+  pub lowest : r .lowest ≡ lowestOf T cut fs
+  pub highest : r .highest ≡ highestOf T cut fs
+  pub spans-are : spans ≡ packedSpans fs ++ zeros (length spans - length (packedSpans fs))
+  pub sets-are : sets′ ≡ over sets 0 (packedSets T cut fs)

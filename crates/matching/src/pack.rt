@@ -8,7 +8,7 @@ ghost use Rattle.meaning.specs.File.{tableIn};
 ghost use Rattle.meaning.specs.Packing.{countOf};
 ghost use Rattle.meaning.specs.Calls.{zeros, facesIn};
 ghost use Rattle.meaning.specs.Search.{symbolWorth};
-ghost use Rattle.matching.specs.Pack.{Packable, Room, PackedNext, PackedBy};
+ghost use Rattle.matching.specs.Pack.{Packable, Room, PackedNext, PackedAll};
 use crate::gather::gather;
 use crate::position::lesser;
 use crate::variable::pack_variable;
@@ -93,7 +93,7 @@ pub fn pack(
     requires { ⌜ Room (now pattern) (now heading) (now starts) (now sizes) (now «own_starts») (now «own_sizes») (now spans) (now sets) ⌝ }
     requires { ⌜ least ≡ leastOf (symbolWorth (tableIn (now table))) (facesIn (now table) (now pattern) (now heading)) ⌝ }
     requires { ⌜ now spans ≡ zeros (length (now spans)) ⌝ }
-    ensures { λ r. ⌜ PackedBy (now (table .entry)) (now (pattern .entry)) (now (heading .entry)) cut r (now (spans .exit)) (now (sets .entry)) (now (sets .exit)) ⌝ }
+    ensures { λ r. ⌜ PackedAll (tableIn (now (table .entry))) cut (facesIn (now (table .entry)) (now (pattern .entry)) (now (heading .entry))) r (now (spans .exit)) (now (sets .entry)) (now (sets .exit)) ⌝ }
 {
     let symbols = symbol_count(table);
     let mut search = Search {

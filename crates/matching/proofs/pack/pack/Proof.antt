@@ -109,8 +109,8 @@ pack-next-requires c κs =
     let new = is-new met in
     let at = met .before .before .before .before .before .before .before .before in
     let p = at .before .before .before .before .before .before .before .before .before .before .before .pre in
-    let inv = at .loop .inv in
-    (p .0, (room-kept (p .1 .0) (inv .1) (inv .2) (inv .3) (inv .4), ((new .below, new .some), new .fits)))
+    let kept = at .loop .inv in
+    (p .0, (room-kept (p .1 .0) (kept .1) (kept .2) (kept .3) (kept .4), ((new .below, new .some), new .fits)))
 
 add-i : tie.Need-add-i Inv-loop μ-loop
 add-i c = search needs
@@ -126,9 +126,7 @@ loop-again c =
     let k = start .pre .0 in
     elim (c .match .came) [
       | inl w ↦
-          let told : tie.After-known-told Inv-loop μ-loop =
-          record { before = record { before = record { before = c .before; match = w .0 }; v = w .1 }; known-told = w .2 }
-          in
+          let told : tie.After-known-told Inv-loop μ-loop = record { before = record { before = record { before = c .before; match = w .0 }; v = w .1 }; known-told = w .2 } in
           let new : tie.Then1 Inv-loop μ-loop = record { before = record { before = told; slice-known5 = w .3 }; if1 = w .4 } in
           let kept = w .9 .kept .1 .1 .1 .1 .1 .1 .1 .1 in
           rw (w .18, w .19, w .20, w .21, w .22) (
@@ -140,9 +138,7 @@ loop-again c =
             along-new k (loop .inv .5) (turn .loop-test .taken) (is-new new) (start .pre .1 .0 .of-sets) (w .9 .ensures),
           )
       | inr (inl w) ↦
-          let told : tie.After-known-told Inv-loop μ-loop =
-          record { before = record { before = record { before = c .before; match = w .0 }; v = w .1 }; known-told = w .2 }
-          in
+          let told : tie.After-known-told Inv-loop μ-loop = record { before = record { before = record { before = c .before; match = w .0 }; v = w .1 }; known-told = w .2 } in
           rw (w .5, w .6, w .7, w .8, w .9)
           (omega arith, loop .inv .1, loop .inv .2, loop .inv .3, loop .inv .4, along-met k (loop .inv .5) (turn .loop-test .taken) (is-variable told) (w .4 .left))
       | inr (inr w) ↦

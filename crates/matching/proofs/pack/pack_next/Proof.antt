@@ -18,14 +18,15 @@ use Rattle.matching.proofs.pack.pack_next.Tie as tie
 gather-requires : tie.Need-gather-requires
 gather-requires c κs = search needs
 
+abbrev entry : tie.After-gather → tie.Start
+entry c = c .before .before .before .before .before .before .before .before .before .before .before .before
+
 -- the notes gathered are of the subterms that face the variable
 own : (c : tie.After-gather)
-    → let a = c .before .before .before .before .before .before .before .before .before .before .before .before .args in
+    → let a = entry c .args in
     let last = c .gather .last .1 .1 .1 .1 in
     OwnNotes (a .heading .now) (last .0) (last .1 .0) (c .gather .result) (facing (a .v) (facesIn (a .table .now) (a .pattern .now) (a .heading .now)))
-own c =
-    let p = c .before .before .before .before .before .before .before .before .before .before .before .before .pre in
-    own-notes (p .0) (c .gather .ensures) (p .1 .1 .0 .1) (omega arith) (omega arith)
+own c = let p = entry c .pre in own-notes (p .0) (c .gather .ensures) (p .1 .1 .0 .1) (omega arith) (omega arith)
 
 slice-read-positions : tie.Need-slice-read-positions
 slice-read-positions c =
@@ -40,7 +41,7 @@ mul-span c = search needs
 
 cast-spans : tie.Need-cast-spans
 cast-spans c =
-    let p = c .before .before .before .before .before .before .before .before .before .before .before .before .before .before .before .before .before .pre in
+    let p = entry (c .before .before .before .before .before) .pre in
     omega (arith, short (p .0), p .1 .1 .1)
 
 mul-spans : tie.Need-mul-spans
@@ -57,21 +58,24 @@ mul-spans-2 c = search needs
 
 slice-write-spans-2 : tie.Need-slice-write-spans-2
 slice-write-spans-2 c =
-    let p = c .before .before .before .before .before .before .before .before .before .before .before .before .before .before .before .before .before .pre in
+    let p = entry (c .before .before .before .before .before) .pre in
     simp length-set (omega (arith, p .1 .0 .of-spans, p .1 .1 .0 .0))
 
 pack-variable-requires : tie.Need-pack-variable-requires
 pack-variable-requires c κs =
-    let start = c .before .before .before .before .before .before .before .before .before .before .before .before .before .before .before .before .before .before .before .before in
-    let p = start .pre in
-    let notes = own (c .before .before .before .before .before .before .before .before) in
+    let took = c .before .before .before .before .before .before .before .before in
+    let p = entry took .pre in
+    let notes = own took in
     ((p .0 .sound, notes .within, notes .some, p .0 .positive), omega (arith, notes .first, p .1 .0 .of-sets, p .1 .1 .1))
 
 -- what is packed with the variable is within the heading
-fits : (c : tie.After-slice-known8) → c .before .before .before .before .before .before .before .before .before .before .before .before .before .before .before .before .before .before .before .before .before .before .before .args .search .packed + getD (c .before .before .before .before .before .before .before .before .before .before .before .gather .last .1 .1 .1 .1 .1 .0) 0 0 ≤ 1024
+fits : (c : tie.After-slice-known8)
+    → let took = c .before .before .before .before .before .before .before .before .before .before .before in
+    entry took .args .search .packed + getD (took .gather .last .1 .1 .1 .1 .1 .0) 0 0 ≤ 1024
 fits c =
-    let p = c .before .before .before .before .before .before .before .before .before .before .before .before .before .before .before .before .before .before .before .before .before .before .before .pre in
-    omega (arith, own (c .before .before .before .before .before .before .before .before .before .before .before) .first, short (p .0), p .1 .1 .1)
+    let took = c .before .before .before .before .before .before .before .before .before .before .before in
+    let p = entry took .pre in
+    omega (arith, own took .first, short (p .0), p .1 .1 .1)
 
 cast-t52 : tie.Need-cast-t52
 cast-t52 c = omega (arith, fits c)
@@ -100,18 +104,21 @@ same-length-3 c = search needs
 same-length-4 : tie.Need-same-length-4
 same-length-4 c = search needs
 
+lacking-is : (c : tie.Joined1)
+    → let found = c .before .before .before in
+    let a = entry (found .before .before .before .before .before .before .before .before .before) .args in
+    c .if1 .t56 ≡ cond (found .pack-variable .result .formed) (a .search .lacking) (min (a .search .lacking) (a .v))
+lacking-is c = elim (c .if1 .came) [ inl w ↦ rw (w .0 .taken) (w .1) | inr w ↦ rw (w .0 .left) (w .2 ∙ w .1 .ensures) ]
+
 returns : tie.Need-returns
 returns c =
-    let found = c .before .before .before .before .before in
+    let met = c .before .before in
+    let found = met .before .before .before in
     let took = found .before .before .before .before .before .before .before .before .before in
-    let start = took .before .before .before .before .before .before .before .before .before .before .before .before in
-    let a = start .args in
-    let p = start .pre in
+    let a = entry took .args in
+    let p = entry took .pre in
     let notes = own took in
-    let lacks : c .before .before .if1 .t56 ≡ cond (found .pack-variable .result .formed) (a .search .lacking) (min (a .search .lacking) (a .v)) =
-    elim (c .before .before .if1 .came) [ inl w ↦ rw (w .0 .taken) (w .1) | inr w ↦ rw (w .0 .left) (w .2 ∙ w .1 .ensures) ]
-    in
-    noted-next notes (found .pack-variable .ensures _ (notes .gathered)) refl lacks (c .before .lesser2 .ensures) (c .lesser3 .ensures)
+    noted-next notes (found .pack-variable .ensures _ (notes .gathered)) refl (lacking-is met) (c .before .lesser2 .ensures) (c .lesser3 .ensures)
     (over-two (a .spans .now) (spanWidth * a .v) (a .search .packed) _ (omega (arith, p .1 .0 .of-spans, p .1 .1 .0 .0)))
 
 pub pack-next-spec : {M : Type 1} → statement M

@@ -70,6 +70,11 @@ loop-less c = search needs
 set-words : (c : tie.After-set-at Inv-loop μ-loop) → Words setWords (c .set-at .result .words)
 set-words c = search (needs, words-of)
 
+form-is : (c : tie.Joined1 Inv-loop μ-loop)
+    → let loop = c .before .before .before .before .before .before .before .before .loop in
+    c .if1 .formed ≡ cond (c .before .is-empty .result) false (loop .formed)
+form-is c = elim (c .if1 .came) [ inl w ↦ rw (w .0 .taken) (w .1) | inr w ↦ rw (w .0 .left) (w .1) ]
+
 loop-again : tie.Need-loop-again Inv-loop μ-loop
 loop-again c =
     let met = c .before .before .before in
@@ -80,17 +85,14 @@ loop-again c =
     let a = start .args in
     let loop = turn .before .loop in
     let set = chosen .set-at in
-    let empty = met .before .is-empty in
-    let form : met .if1 .formed ≡ cond (empty .result) false (loop .formed) =
-    elim (met .if1 .came) [ inl w ↦ rw (w .0 .taken) (w .1) | inr w ↦ rw (w .0 .left) (w .1) ]
-    in (
+    let empty = met .before .is-empty in (
       omega arith,
       put .put-set .kept .0 ∙ loop .inv .1,
       λ ts g.
           let is = set .ensures ts g in
           let degrees = c .before .before .degrees-at .ensures ts (a .cut) g is in
           packed-next (tableIn (a .table .now)) (a .cut) ts (a .at) (a .sets .now) (loop .k) (set .result .words) (empty .result)
-          (loop .inv .2 ts g) (omega (arith, start .pre .1)) (set-words chosen) is (put .put-set .ensures) (empty .ensures) form
+          (loop .inv .2 ts g) (omega (arith, start .pre .1)) (set-words chosen) is (put .put-set .ensures) (empty .ensures) (form-is met)
           (c .before .lesser .ensures ∙ ap (min (loop .lowest)) (degrees .0))
           (c .lesser2 .ensures ∙ ap (min (loop .highest)) (degrees .1)),
     )

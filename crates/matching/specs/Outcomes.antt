@@ -1,0 +1,41 @@
+-- What the search answers and leaves, in the meaning's words.
+use mathlib.Core.List.{List, _++_}
+use mathlib.Core.Bool.{cond}
+use Prim.Native.Nat.{ℕ, _-_, _*_}
+use lib.Dec.{ltb}
+use lib.ListN.{length, take}
+use Rattle.meaning.specs.Limits.{setWords, variableCount}
+use Rattle.meaning.specs.Calls.{Answer, gives, Degrees, degrees, Matched, zeros}
+use Rattle.refusal.specs.Told.{refusedBy}
+use Rattle.refusal.specs.declared.Refusal.{Refusal}
+use Rattle.refusal.specs.declared.Refusal.the-variants.{NoForm, Overfull}
+use Rattle.matching.specs.declared.pack.Search.{Search}
+use Rattle.matching.specs.declared.search.Outcome.{Outcome}
+use Rattle.matching.specs.declared.search.Outcome.the-variants.{Match, Refused}
+
+abbrev pub saidMatch : Outcome → Answer Degrees
+saidMatch (Match low high) = gives (degrees low high)
+saidMatch (Refused why) = refusedBy why
+
+-- The answer with what the buffers hold.
+abbrev pub resultOf : Outcome → List ℕ → List ℕ → Matched
+resultOf r spans sets = record { answer = saidMatch r; spans = spans; sets = sets }
+
+-- Refused so, with zeros in both buffers.
+abbrev pub emptied : Refusal → List ℕ → List ℕ → Matched
+emptied why spans sets = record { answer = refusedBy why; spans = zeros (length spans); sets = zeros (length sets) }
+
+-- A match: what is packed is kept, with zeros behind the words.
+abbrev pub kept : Search → List ℕ → List ℕ → Matched
+kept found spans sets =
+    record {
+      answer = gives (degrees (found .lowest) (found .highest));
+      spans = spans;
+      sets = take (setWords * found .packed) sets ++ zeros (length sets - setWords * found .packed);
+    }
+
+-- What comes of packed variables, for a heading of so many nodes.
+unfoldable pub outcomeOf : ℕ → Search → List ℕ → List ℕ → Matched
+outcomeOf nodes found spans sets =
+    cond (ltb (found .lacking) variableCount) (emptied (NoForm (found .lacking)) spans sets)
+    (cond (ltb nodes (found .packed)) (emptied Overfull spans sets) (kept found spans sets))

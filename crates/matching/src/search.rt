@@ -1,0 +1,200 @@
+// The match of a pattern and a heading that are sound, at a cut, in buffers that have room.
+ghost use mathlib.Core.Path.{_≡_};
+ghost use Prim.Native.Nat.{_*_, _≤_};
+ghost use lib.ListN.{length};
+ghost use Rattle.meaning.specs.Limits.{setWords};
+ghost use Rattle.meaning.specs.Calls.{matchCall};
+ghost use Rattle.meaning.specs.Demands.{Accepted};
+ghost use Rattle.matching.specs.Faced.{ClearBy};
+ghost use Rattle.matching.specs.Pack.{Room};
+ghost use Rattle.matching.specs.Outcomes.{resultOf, emptied, outcomeOf};
+use crate::clear::clear_numbers;
+use crate::clear::clear_words;
+use crate::faces::Facing;
+use crate::faces::face;
+use crate::pack::Search;
+use crate::pack::pack;
+use refusal::Refusal;
+use sets::SymbolSet;
+
+pub enum Outcome {
+    // the lowest and the highest degree
+    Match(u16, u16),
+    Refused(Refusal),
+}
+
+// Refused by the search, which leaves zeros in both buffers.
+fn refuse(why: Refusal, spans: &mut [u16], sets: &mut [u64]) -> Outcome
+    ensures { λ r. ⌜ resultOf r (now (spans .exit)) (now (sets .exit)) ≡ emptied why (now (spans .entry)) (now (sets .entry)) ⌝ }
+{
+    clear_numbers(spans, 0);
+    clear_words(sets, 0);
+    Outcome::Refused(why)
+}
+
+// What comes of variables that are packed: a match, if each has a form and the positions are no more than the heading's nodes.
+fn settle(nodes: usize, found: Search, spans: &mut [u16], sets: &mut [u64]) -> Outcome
+    requires { ⌜ setWords * nodes ≤ length (now sets) ⌝ }
+    ensures { λ r. ⌜ resultOf r (now (spans .exit)) (now (sets .exit)) ≡ outcomeOf nodes found (now (spans .entry)) (now (sets .entry)) ⌝ }
+{
+    if found.lacking < 32 {
+        return refuse(Refusal::NoForm(found.lacking), spans, sets);
+    }
+    if nodes < found.packed {
+        return refuse(Refusal::Overfull, spans, sets);
+    }
+    clear_words(sets, SymbolSet::WORDS * found.packed);
+    Outcome::Match(found.lowest, found.highest)
+}
+
+// The match where nothing clashes.
+fn search_variables(
+    table: &[u8],
+    pattern: &[u16],
+    heading: &[u16],
+    cut: u16,
+    starts: &[u16],
+    sizes: &[u16],
+    least: u16,
+    own_starts: &mut [u16],
+    own_sizes: &mut [u16],
+    spans: &mut [u16],
+    sets: &mut [u64],
+) -> Outcome
+    requires { ⌜ Accepted (now table) (now pattern) (now heading) cut (now spans) (now sets) ⌝ }
+    requires { ⌜ ClearBy (now table) cut (now pattern) (now heading) least (now starts) (now sizes) ⌝ }
+    requires { ⌜ Room (now pattern) (now heading) (now starts) (now sizes) (now «own_starts») (now «own_sizes») (now spans) (now sets) ⌝ }
+    ensures { λ r. ⌜ resultOf r (now (spans .exit)) (now (sets .exit)) ≡ matchCall (now (table .entry)) (now (pattern .entry)) (now (heading .entry)) cut (now (spans .entry)) (now (sets .entry)) ⌝ }
+{
+    clear_numbers(spans, 0);
+    let found = pack(
+        table,
+        pattern,
+        heading,
+        cut,
+        starts,
+        sizes,
+        least,
+        own_starts,
+        own_sizes,
+        spans,
+        sets,
+    );
+    settle(heading.len(), found, spans, sets)
+}
+
+// The match. What faces the pattern's nodes, and then one variable, is noted in the four lists that are lent for it.
+pub fn search(
+    table: &[u8],
+    pattern: &[u16],
+    heading: &[u16],
+    cut: u16,
+    starts: &mut [u16],
+    sizes: &mut [u16],
+    own_starts: &mut [u16],
+    own_sizes: &mut [u16],
+    spans: &mut [u16],
+    sets: &mut [u64],
+) -> Outcome
+    requires { ⌜ Accepted (now table) (now pattern) (now heading) cut (now spans) (now sets) ⌝ }
+    requires { ⌜ (length (now pattern) ≤ length (now starts)) × (length (now pattern) ≤ length (now sizes)) ⌝ }
+    requires { ⌜ (length (now pattern) ≤ length (now «own_starts»)) × (length (now pattern) ≤ length (now «own_sizes»)) ⌝ }
+    ensures { λ r. ⌜ resultOf r (now (spans .exit)) (now (sets .exit)) ≡ matchCall (now (table .entry)) (now (pattern .entry)) (now (heading .entry)) cut (now (spans .entry)) (now (sets .entry)) ⌝ }
+{
+    match face(table, pattern, heading, cut, starts, sizes) {
+        Facing::Clash(node) => refuse(Refusal::Clash(node as u16), spans, sets),
+        Facing::Clear(least) => search_variables(
+            table,
+            pattern,
+            heading,
+            cut,
+            starts,
+            sizes,
+            least,
+            own_starts,
+            own_sizes,
+            spans,
+            sets,
+        ),
+    }
+}
+
+// The match of a small pattern.
+fn search_small(
+    table: &[u8],
+    pattern: &[u16],
+    heading: &[u16],
+    cut: u16,
+    spans: &mut [u16],
+    sets: &mut [u64],
+) -> Outcome
+    requires { ⌜ length (now pattern) ≤ 64 ⌝ }
+    requires { ⌜ Accepted (now table) (now pattern) (now heading) cut (now spans) (now sets) ⌝ }
+    ensures { λ r. ⌜ resultOf r (now (spans .exit)) (now (sets .exit)) ≡ matchCall (now (table .entry)) (now (pattern .entry)) (now (heading .entry)) cut (now (spans .entry)) (now (sets .entry)) ⌝ }
+{
+    let mut starts = [0u16; 64];
+    let mut sizes = [0u16; 64];
+    let mut own_starts = [0u16; 64];
+    let mut own_sizes = [0u16; 64];
+    search(
+        table,
+        pattern,
+        heading,
+        cut,
+        &mut starts,
+        &mut sizes,
+        &mut own_starts,
+        &mut own_sizes,
+        spans,
+        sets,
+    )
+}
+
+// The match of any pattern.
+fn search_large(
+    table: &[u8],
+    pattern: &[u16],
+    heading: &[u16],
+    cut: u16,
+    spans: &mut [u16],
+    sets: &mut [u64],
+) -> Outcome
+    requires { ⌜ Accepted (now table) (now pattern) (now heading) cut (now spans) (now sets) ⌝ }
+    ensures { λ r. ⌜ resultOf r (now (spans .exit)) (now (sets .exit)) ≡ matchCall (now (table .entry)) (now (pattern .entry)) (now (heading .entry)) cut (now (spans .entry)) (now (sets .entry)) ⌝ }
+{
+    let mut starts = [0u16; 1024];
+    let mut sizes = [0u16; 1024];
+    let mut own_starts = [0u16; 1024];
+    let mut own_sizes = [0u16; 1024];
+    search(
+        table,
+        pattern,
+        heading,
+        cut,
+        &mut starts,
+        &mut sizes,
+        &mut own_starts,
+        &mut own_sizes,
+        spans,
+        sets,
+    )
+}
+
+// The match in memory of its own size: a small pattern does not pay for clearing what only a large one needs.
+pub fn search_sound(
+    table: &[u8],
+    pattern: &[u16],
+    heading: &[u16],
+    cut: u16,
+    spans: &mut [u16],
+    sets: &mut [u64],
+) -> Outcome
+    requires { ⌜ Accepted (now table) (now pattern) (now heading) cut (now spans) (now sets) ⌝ }
+    ensures { λ r. ⌜ resultOf r (now (spans .exit)) (now (sets .exit)) ≡ matchCall (now (table .entry)) (now (pattern .entry)) (now (heading .entry)) cut (now (spans .entry)) (now (sets .entry)) ⌝ }
+{
+    if pattern.len() <= 64 {
+        search_small(table, pattern, heading, cut, spans, sets)
+    } else {
+        search_large(table, pattern, heading, cut, spans, sets)
+    }
+}
