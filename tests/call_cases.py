@@ -12,7 +12,7 @@ from reference import Refused, two_bytes
 GUARD, SPANS, SETS, LONGEST = 9999, 72, 4112, 1100
 
 SYMBOL_DEGREE, DEGREE, SUBTERM, NEARER, MATCH = 1, 2, 3, 4, 5
-ANSWERED = (SYMBOL_DEGREE, DEGREE, SUBTERM, NEARER)   # what the program answers; other cases are left out
+ANSWERED = (SYMBOL_DEGREE, DEGREE, SUBTERM, NEARER, MATCH)   # what the program answers; other cases are left out
 
 
 # ---- answers as text

@@ -1,5 +1,6 @@
 // The calls, a kind of case for each.
 use crate::input::Asked;
+use crate::matches::ask_match;
 use crate::say;
 use headings::tables::symbol_degree;
 use headings::term::degree_of_headings;
@@ -13,6 +14,7 @@ pub fn ask<'a>(asked: Asked, table: &[u8], first: &[u16], second: &'a [u16], thi
         2 => say::degree(degree_of_headings(table, first, second)),
         3 => say::part(b" part ", subterm(table, first, asked.x as usize)),
         4 => say::part(b" nearer ", nearer(table, first, second, third)),
+        5 => ask_match(asked, table, first, second),
         _ => say::text(b" no such kind\n"),
     }
 }

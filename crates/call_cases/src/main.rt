@@ -2,6 +2,7 @@
 // from a reference that was written from the rules alone.
 mod ask;
 mod input;
+mod matches;
 mod say;
 
 use input::LONGEST;
