@@ -25,7 +25,7 @@ module _ (table : List ℕ) (e : SoundFile table) where
   missing index count l = first-append (tableRows table) (row14 index count ∷ []) e ∙ rw (le-ltb index count l)
 
   -- THEOREM: reading back
-  pub reads-back : ReadBack table
+  pub reads-back : ReadBack table (arityBack table) (pairBack table)
   unfolding arityBack pairBack
   reads-back =
       record {

@@ -95,7 +95,7 @@ module _ (table : List ℕ) (e : SoundFile table) where
       zero-of false = refl
 
   -- THEOREM
-  pub symbol-degrees : SymbolDegrees table
+  pub symbol-degrees : SymbolDegrees table (symbolDegree table)
   unfolding tableIn
   symbol-degrees =
       record {

@@ -1,5 +1,5 @@
 -- The law of `first`, which passes over rows until one holds: a refusal is given exactly if its row holds there and no row before it holds.
--- So each call refuses exactly by its rows.
+-- So a call that answers unless a row refuses, refuses exactly by its rows.
 use mathlib.Core.Path.{_≡_, refl, sym as inv, ap}
 use mathlib.Core.Logic.{_↔_}
 use mathlib.Core.List.{List, [], _∷_, _++_}
@@ -12,8 +12,8 @@ use mathlib.Core.Bool.{Bool, true, false}
 use Rattle.theory.specs.Least.{leastBelow, All}
 use lib.ListN.{length, getD}
 use Rattle.meaning.specs.Refusals.{Refusal, refusal, Row, row, rowPlace, first, Given, row1-short, row1-offsets, row2, row3, row4, row5, row6, row7, row8, row8-output, row9, row10, row11, row14, tableRows}
-use Rattle.meaning.specs.Calls.{refused, gives, unless, isTable, symbolDegree, degreeRows, headingDegree, subtermRows, inputRows, searchRows, matchRows, matched, writerRows, written, backRows, arityBack, pairBack}
-use Rattle.meaning.specs.Demands.{Exactly, Demand1, Order}
+use Rattle.meaning.specs.Calls.{refused, gives, unless, degreeRows, subtermRows, inputRows, searchRows, matchRows, writerRows, backRows}
+use Rattle.meaning.specs.Demands.{Exactly, Order}
 
 -- a row more in front, which does not hold
 more : (m : ℕ) (rows : List Row) (n place : ℕ) → Given rows n place → Given (row m none ∷ rows) n place
@@ -56,6 +56,7 @@ module _ {A : Type 0} where
   unless-gives none a b e = (refl, cc)
   unless-gives (just (refusal m i)) a b e = let z : _≡_ {A = ℕ} 0 1 = cc in absurd (omega arith)
 
+  -- LAW: such a call refuses exactly by its rows
   pub exactly : (rows : List Row) (a : A) → Exactly rows (unless (first rows) a)
   exactly rows a =
       record {
@@ -69,20 +70,6 @@ module _ {A : Type 0} where
       go : ((n place : ℕ) → Given rows n place → ⊥) → (o : Option Refusal) → first rows ≡ o → (b : A) × (unless o a ≡ gives b)
       go never none e = (a, refl)
       go never (just (refusal n place)) e = absurd (never n place (first-given rows n place e))
-
--- THEOREM, demand 1's refusals: every call with numbered refusals gives each exactly by its rows
-pub demand1 : Demand1
-unfolding isTable symbolDegree headingDegree matched written arityBack pairBack
-demand1 =
-    record {
-      is-table = λ table. exactly _ _;
-      symbol-degree = λ table a b. exactly _ _;
-      heading-degree = λ table one two. exactly _ _;
-      match = λ table pattern heading cut spans sets. exactly _ _;
-      writer = λ arities pairs output. exactly _ _;
-      arity-back = λ table a. exactly _ _;
-      pair-back = λ table k. exactly _ _;
-    }
 
 -- THEOREM: the rows of each call stand in their order, whatever is lent
 pub order : Order

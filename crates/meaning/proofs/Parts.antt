@@ -124,7 +124,7 @@ terms table e =
 
 -- ---- the subterm
 
-subterm-found : (table term : List ℕ) (i : ℕ) → first (subtermRows table term) ≡ none → i < length term → SubtermIs table term i
+subterm-found : (table term : List ℕ) (i : ℕ) → first (subtermRows table term) ≡ none → i < length term → SubtermIs table term i (subterm table term i)
 unfolding subterm subtermRows
 subterm-found table term i e l =
     record {
@@ -167,7 +167,7 @@ subterm-found table term i e l =
     back = omega arith
 
 -- THEOREM: subterms
-pub subterms : Subterms
+pub subterms : Subterms subterm
 unfolding subterm
 subterms =
     record {
@@ -189,7 +189,7 @@ chosen a b = go (decLt a b)
     go (yes l) = rw (lt-ltb a b l) (((λ e. let z : _≡_ {A = ℕ} 0 1 = cc in absurd (omega arith)), (λ m. absurd (omega arith))), ((λ e. l), (λ m. refl)))
     go (no l) = rw (le-ltb a b (omega arith)) (((λ e. omega arith), (λ m. refl)), ((λ e. let z : _≡_ {A = ℕ} 0 1 = cc in absurd (omega arith)), (λ m. absurd (omega arith))))
 
-nearer-found : (table heading one two : List ℕ) → first (nearerRows table heading one two) ≡ none → NearerIs table heading one two
+nearer-found : (table heading one two : List ℕ) → first (nearerRows table heading one two) ≡ none → NearerIs table heading one two (nearer table heading one two)
 unfolding nearer nearerRows
 nearer-found table heading one two e =
     let T = tableIn table in
@@ -214,7 +214,7 @@ which true e = let z : _≡_ {A = ℕ} 0 1 = cc in omega arith
 which false e = let z : _≡_ {A = ℕ} 0 1 = cc in omega arith
 
 -- THEOREM: the nearer
-pub nearest : Nearest
+pub nearest : Nearest nearer
 unfolding nearer
 nearest =
     record {

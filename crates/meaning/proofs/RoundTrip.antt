@@ -11,7 +11,7 @@ use Rattle.theory.specs.Pairs.{Pair}
 use Rattle.meaning.specs.File.{symbolCount, pairCount, total, aritiesIn, pairsIn, fileOf}
 use Rattle.meaning.specs.Refusals.{first, row2, tableRows, SoundFile}
 use Rattle.meaning.specs.Calls.{refused, gives, writerRows, written, laterOutput}
-use Rattle.meaning.specs.Tables.{Bytes, Writes, WritesAgain, RoundTrip}
+use Rattle.meaning.specs.Tables.{Bytes, writeCall, Writes, WritesAgain, RoundTrip}
 use Rattle.meaning.proofs.First.{Silent, all-silent, silent-first, unless-gives, unless-refused}
 use Rattle.meaning.proofs.Sound.{passed, length-pairsIn, length-aritiesIn}
 use Rattle.meaning.proofs.Silent.{silent-output}
@@ -54,7 +54,7 @@ module _ (arities : List ℕ) (pairs : List Pair) (output : List ℕ) where
     read : ReadWritten arities pairs
     read = read-back arities pairs output (accepted n e .0)
 
-  writes : Writes arities pairs output (record { answer = written arities pairs output; output = laterOutput arities pairs output })
+  writes : Writes arities pairs output (writeCall arities pairs output)
   writes =
       record {
         refusal-leaves = kept;
@@ -82,7 +82,7 @@ module _ (table output : List ℕ) (bytes : Bytes table) (e : SoundFile table) (
       counts : Silent (row2 (symbolCount table) (pairCount table)) → Silent (row2 (length (aritiesIn table)) (length (pairsIn table)))
       counts s = rw (length-aritiesIn table (passed table e), length-pairsIn table) s
 
-  writes-again : WritesAgain table output
+  writes-again : WritesAgain table output (writeCall (aritiesIn table) (pairsIn table) output)
   writes-again =
       let t = taken (aritiesIn table) (pairsIn table) output not-refused in
       record {
@@ -91,5 +91,5 @@ module _ (table output : List ℕ) (bytes : Bytes table) (e : SoundFile table) (
       }
 
 -- THEOREM: the writer and the reader undo one another
-pub round-trip : RoundTrip
+pub round-trip : RoundTrip writeCall
 round-trip = record { read-written = writes; written-read = writes-again }

@@ -15,8 +15,9 @@ use Rattle.theory.specs.Verdict.{MeansFormless}
 use Rattle.theory.specs.Pairs.{Pair}
 use Rattle.meaning.specs.Limits.{setWords, setRoom, variableCount, spanWidth}
 use Rattle.meaning.specs.Packing.{packedCount}
-use Rattle.meaning.specs.Calls.{refused, gives, Degrees, zeros, facesIn, Matched, laterSpans, laterSets, laterOutput}
+use Rattle.meaning.specs.Calls.{refused, gives, Degrees, zeros, facesIn, Matched}
 use Rattle.meaning.specs.Buffers.{firstPosition, positionCount, holds}
+use Rattle.meaning.specs.Tables.{Wrote}
 
 -- Refusals 9 to 11, of a match that is not refused by 1 to 8.
 -- 9: the place is an index of the pattern's list, that of the first clash.
@@ -50,7 +51,7 @@ pub record Leaves (table pattern heading : List ℕ) (cut : ℕ) (spans sets : L
       → getD (r .sets) i 0 ≡ 0
 
 -- Lent memory keeps its length, whatever is lent.
-pub record Lengths : Type 0 where
-  pub of-spans : (table pattern heading : List ℕ) (cut : ℕ) (spans sets : List ℕ) → length (laterSpans table pattern heading cut spans sets) ≡ length spans
-  pub of-sets : (table pattern heading : List ℕ) (cut : ℕ) (spans sets : List ℕ) → length (laterSets table pattern heading cut spans sets) ≡ length sets
-  pub of-output : (arities : List ℕ) (pairs : List Pair) (output : List ℕ) → length (laterOutput arities pairs output) ≡ length output
+pub record Lengths (match : (table pattern heading : List ℕ) (cut : ℕ) (spans sets : List ℕ) → Matched) (write : List ℕ → List Pair → List ℕ → Wrote) : Type 0 where
+  pub of-spans : (table pattern heading : List ℕ) (cut : ℕ) (spans sets : List ℕ) → length (match table pattern heading cut spans sets .spans) ≡ length spans
+  pub of-sets : (table pattern heading : List ℕ) (cut : ℕ) (spans sets : List ℕ) → length (match table pattern heading cut spans sets .sets) ≡ length sets
+  pub of-output : (arities : List ℕ) (pairs : List Pair) (output : List ℕ) → length (write arities pairs output .output) ≡ length output

@@ -13,7 +13,7 @@ use Rattle.theory.specs.Table.{Table, degree}
 use Rattle.theory.specs.Read.{Fine, depth}
 use Rattle.meaning.specs.File.{tableIn}
 use Rattle.meaning.specs.Refusals.{first, Given, row6, row7}
-use Rattle.meaning.specs.Calls.{part, subtermRows, subterm, theFirst, theSecond, neither, nearerRows, nearer}
+use Rattle.meaning.specs.Calls.{Part, part, subtermRows, Nearer, theFirst, theSecond, neither, nearerRows}
 use Rattle.meaning.specs.Demands.{WritesTerm, WritesPattern, Only}
 
 -- ---- which lists are terms
@@ -45,32 +45,32 @@ abbrev mutual
   subtermIn (p ▸ ps) i = cond (ltb i (length (encₚ p))) (subtermAt p i) (subtermIn ps (i - length (encₚ p)))
 
 -- The part handed back, of a term that is not refused and an index below its length, is where that subterm stands.
-pub record SubtermIs (table term : List ℕ) (i : ℕ) : Type 0 where
+pub record SubtermIs (table term : List ℕ) (i : ℕ) (r : Part) : Type 0 where
   pub p : Pattern
   pub q : Pattern
   pub writes-term : Only (WritesPattern (tableIn table) term) p
   pub subterm-is : subtermAt p i ≡ just q
-  pub handed-back : subterm table term i ≡ part i (length (encₚ q))
+  pub handed-back : r ≡ part i (length (encₚ q))
   pub holds-it : take (length (encₚ q)) (drop i term) ≡ encₚ q
 
-pub record Subterms : Type 0 where
-  pub found : (table term : List ℕ) (i : ℕ) → first (subtermRows table term) ≡ none → i < length term → SubtermIs table term i
-  pub refused-part : (table term : List ℕ) (i n place : ℕ) → Given (subtermRows table term) n place → subterm table term i ≡ part 0 0
-  pub outside-part : (table term : List ℕ) (i : ℕ) → length term ≤ i → subterm table term i ≡ part 0 0
+pub record Subterms (subtermOf : (table term : List ℕ) (i : ℕ) → Part) : Type 0 where
+  pub found : (table term : List ℕ) (i : ℕ) → first (subtermRows table term) ≡ none → i < length term → SubtermIs table term i (subtermOf table term i)
+  pub refused-part : (table term : List ℕ) (i n place : ℕ) → Given (subtermRows table term) n place → subtermOf table term i ≡ part 0 0
+  pub outside-part : (table term : List ℕ) (i : ℕ) → length term ≤ i → subtermOf table term i ≡ part 0 0
 
 -- ---- the nearer of two
 
 -- The nearer: the candidate with the higher degree, the first at equal degree; neither exactly if something is refused.
-pub record NearerIs (table heading one two : List ℕ) : Type 0 where
+pub record NearerIs (table heading one two : List ℕ) (r : Nearer) : Type 0 where
   pub h : Term
   pub t : Term
   pub u : Term
   pub writes-heading : Only (WritesTerm (tableIn table) heading) h
   pub writes-one : Only (WritesTerm (tableIn table) one) t
   pub writes-two : Only (WritesTerm (tableIn table) two) u
-  pub first-one : nearer table heading one two ≡ theFirst ↔ (degree (tableIn table) h u ≤ degree (tableIn table) h t)
-  pub second-one : nearer table heading one two ≡ theSecond ↔ (degree (tableIn table) h t < degree (tableIn table) h u)
+  pub first-one : r ≡ theFirst ↔ (degree (tableIn table) h u ≤ degree (tableIn table) h t)
+  pub second-one : r ≡ theSecond ↔ (degree (tableIn table) h t < degree (tableIn table) h u)
 
-pub record Nearest : Type 0 where
-  pub found : (table heading one two : List ℕ) → first (nearerRows table heading one two) ≡ none → NearerIs table heading one two
-  pub neither-if : (table heading one two : List ℕ) → nearer table heading one two ≡ neither ↔ ((n : ℕ) × (place : ℕ) × Given (nearerRows table heading one two) n place)
+pub record Nearest (nearerOf : (table heading one two : List ℕ) → Nearer) : Type 0 where
+  pub found : (table heading one two : List ℕ) → first (nearerRows table heading one two) ≡ none → NearerIs table heading one two (nearerOf table heading one two)
+  pub neither-if : (table heading one two : List ℕ) → nearerOf table heading one two ≡ neither ↔ ((n : ℕ) × (place : ℕ) × Given (nearerRows table heading one two) n place)

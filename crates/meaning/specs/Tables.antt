@@ -11,7 +11,7 @@ use Rattle.theory.specs.Table.{Lawful}
 use Rattle.theory.specs.Pairs.{Pair, pair, isPair}
 use Rattle.meaning.specs.File.{number, symbolCount, pairCount, aritiesOffset, pairsOffset, totalField, total, aritiesIn, pairsIn, tableIn}
 use Rattle.meaning.specs.Refusals.{SoundFile}
-use Rattle.meaning.specs.Calls.{Answer, refused, gives, symbolDegree, arityBack, pairBack, written, laterOutput}
+use Rattle.meaning.specs.Calls.{Answer, refused, gives, written, laterOutput}
 
 -- ---- which files are tables, said outright
 
@@ -67,22 +67,21 @@ pub record SoundTable (table : List ℕ) : Type 0 where
   pub lawful : Lawful (tableIn table)
   pub small : tableIn table .size ≤ 256
 
--- The degree of two symbol numbers: 1000 of a symbol with itself, a listed pair's in either order, 0 of every other two, and 0 where one is
--- no symbol, even of a number with itself.
-pub record SymbolDegrees (table : List ℕ) : Type 0 where
-  pub itself : (a : ℕ) → a < symbolCount table → symbolDegree table a a ≡ gives 1000
-  pub listed : (k l h d : ℕ) → k < pairCount table → getD (pairsIn table) k (pair 0 0 0) ≡ pair l h d
-      → (symbolDegree table l h ≡ gives d) × (symbolDegree table h l ≡ gives d)
+-- The degree that a call gives for two symbol numbers: 1000 of a symbol with itself, a listed pair's in either order, 0 of every other two,
+-- and 0 where one is no symbol, even of a number with itself.
+pub record SymbolDegrees (table : List ℕ) (degreeOf : ℕ → ℕ → Answer ℕ) : Type 0 where
+  pub itself : (a : ℕ) → a < symbolCount table → degreeOf a a ≡ gives 1000
+  pub listed : (k l h d : ℕ) → k < pairCount table → getD (pairsIn table) k (pair 0 0 0) ≡ pair l h d → (degreeOf l h ≡ gives d) × (degreeOf h l ≡ gives d)
   pub others : (a b : ℕ) → (a ≡ b → ⊥) → ((k l h d : ℕ) → k < pairCount table → getD (pairsIn table) k (pair 0 0 0) ≡ pair l h d → isPair l h a b ≡ false)
-      → symbolDegree table a b ≡ gives 0
-  pub outside : (a b : ℕ) → (symbolCount table ≤ a) ⊎ (symbolCount table ≤ b) → symbolDegree table a b ≡ gives 0
+      → degreeOf a b ≡ gives 0
+  pub outside : (a b : ℕ) → (symbolCount table ≤ a) ⊎ (symbolCount table ≤ b) → degreeOf a b ≡ gives 0
 
 -- Reading back gives the bytes of the file at the symbol, at the pair; past the last one there is nothing to read.
-pub record ReadBack (table : List ℕ) : Type 0 where
-  pub arity : (a : ℕ) → a < symbolCount table → arityBack table a ≡ gives (arityByte table a)
-  pub no-symbol : (a : ℕ) → symbolCount table ≤ a → arityBack table a ≡ refused 14 0
-  pub pair : (k : ℕ) → k < pairCount table → pairBack table k ≡ gives (pair (lowerAt table k) (higherAt table k) (degreeAt table k))
-  pub no-pair : (k : ℕ) → pairCount table ≤ k → pairBack table k ≡ refused 14 0
+pub record ReadBack (table : List ℕ) (arityOf : ℕ → Answer ℕ) (pairOf : ℕ → Answer Pair) : Type 0 where
+  pub arity : (a : ℕ) → a < symbolCount table → arityOf a ≡ gives (arityByte table a)
+  pub no-symbol : (a : ℕ) → symbolCount table ≤ a → arityOf a ≡ refused 14 0
+  pub pair : (k : ℕ) → k < pairCount table → pairOf k ≡ gives (pair (lowerAt table k) (higherAt table k) (degreeAt table k))
+  pub no-pair : (k : ℕ) → pairCount table ≤ k → pairOf k ≡ refused 14 0
 
 -- ---- writing
 
@@ -94,7 +93,10 @@ pub record Wrote : Type 0 where
   pub answer : Answer ℕ
   pub output : List ℕ
 
--- What is demanded of it: a refusal leaves the output; else the front of the output, as long as the number returned, is a table that reads
+abbrev pub writeCall : List ℕ → List Pair → List ℕ → Wrote
+writeCall arities pairs output = record { answer = written arities pairs output; output = laterOutput arities pairs output }
+
+-- What is demanded of a writer: a refusal leaves the output; else the front of the output, as long as the number returned, is a table that reads
 -- back to the same arities and pairs, and the rest of the output stays.
 pub record Writes (arities : List ℕ) (pairs : List Pair) (output : List ℕ) (r : Wrote) : Type 0 where
   pub refusal-leaves : (n place : ℕ) → r .answer ≡ refused n place → r .output ≡ output
@@ -106,11 +108,11 @@ pub record Writes (arities : List ℕ) (pairs : List Pair) (output : List ℕ) (
   pub rest-stays : (n : ℕ) → r .answer ≡ gives n → drop n (r .output) ≡ drop n output
 
 -- What was read from a table is taken by the writer, given room, and written as the table's own bytes.
-pub record WritesAgain (table output : List ℕ) : Type 0 where
-  pub taken : written (aritiesIn table) (pairsIn table) output ≡ gives (length table)
-  pub same-bytes : laterOutput (aritiesIn table) (pairsIn table) output ≡ table ++ drop (length table) output
+pub record WritesAgain (table output : List ℕ) (r : Wrote) : Type 0 where
+  pub taken : r .answer ≡ gives (length table)
+  pub same-bytes : r .output ≡ table ++ drop (length table) output
 
-pub record RoundTrip : Type 0 where
-  pub read-written : (arities : List ℕ) (pairs : List Pair) (output : List ℕ)
-      → Writes arities pairs output (record { answer = written arities pairs output; output = laterOutput arities pairs output })
-  pub written-read : (table output : List ℕ) → Bytes table → SoundFile table → length table ≤ length output → WritesAgain table output
+pub record RoundTrip (write : List ℕ → List Pair → List ℕ → Wrote) : Type 0 where
+  pub read-written : (arities : List ℕ) (pairs : List Pair) (output : List ℕ) → Writes arities pairs output (write arities pairs output)
+  pub written-read : (table output : List ℕ) → Bytes table → SoundFile table → length table ≤ length output
+      → WritesAgain table output (write (aritiesIn table) (pairsIn table) output)

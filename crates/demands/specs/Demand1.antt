@@ -1,0 +1,47 @@
+-- Demand 1: for everything that can be lent, each call is refused exactly by the first of its rows that holds, at that row's place; and what a
+-- refusal leaves in lent memory is fixed.
+use mathlib.Core.Path.{_≡_}
+use mathlib.Core.Logic.{_↔_, _⊎_}
+use mathlib.Core.List.{List}
+use Prim.Native.Nat.{ℕ, _≤_, _<_}
+use lib.ListN.{length}
+use Rattle.theory.specs.Pairs.{Pair}
+use Rattle.meaning.specs.File.{symbolCount, pairCount}
+use Rattle.meaning.specs.Refusals.{Row, Given, tableRows}
+use Rattle.meaning.specs.Calls.{refused, degreeRows, part, subtermRows, neither, nearerRows, lowestIn, highestIn, Matched, zeros, matchRows, writerRows, backRows}
+use Rattle.meaning.specs.Demands.{Exactly, Order}
+use Rattle.meaning.specs.Tables.{Wrote}
+use Rattle.meaning.specs.Matching.{Lengths}
+use Rattle.demands.specs.Program.{Program}
+
+-- One of the rows refuses.
+abbrev pub Refuses : List Row → Type 0
+Refuses rows = (n : ℕ) × (place : ℕ) × Given rows n place
+
+-- What a refused match returns and leaves: the degrees 0 and 0; both buffers as they were lent where its input or its room is refused (1 to 8), and
+-- zeros in both, to their ends, where the search is (9 to 11).
+pub record AfterRefusal (spans sets : List ℕ) (r : Matched) : Type 0 where
+  pub no-degrees : (n place : ℕ) → r .answer ≡ refused n place → (lowestIn (r .answer) ≡ 0) × (highestIn (r .answer) ≡ 0)
+  pub left : (n place : ℕ) → r .answer ≡ refused n place → n ≤ 8 → (r .spans ≡ spans) × (r .sets ≡ sets)
+  pub cleared : (n place : ℕ) → r .answer ≡ refused n place → 8 < n → (r .spans ≡ zeros (length spans)) × (r .sets ≡ zeros (length sets))
+
+pub record Demand1 (P : Program) : Type 0 where
+  -- refusals with a number and a place
+  pub is-table : (table : List ℕ) → Exactly (tableRows table) (P .isTable table)
+  pub symbol-degree : (table : List ℕ) (a b : ℕ) → Exactly (tableRows table) (P .symbolDegree table a b)
+  pub heading-degree : (table one two : List ℕ) → Exactly (degreeRows table one two) (P .headingDegree table one two)
+  pub match : (table pattern heading : List ℕ) (cut : ℕ) (spans sets : List ℕ)
+      → Exactly (matchRows table pattern heading cut spans sets) (P .match table pattern heading cut spans sets .answer)
+  pub write-table : (arities : List ℕ) (pairs : List Pair) (output : List ℕ) → Exactly (writerRows arities pairs output) (P .writeTable arities pairs output .answer)
+  pub arity-of : (table : List ℕ) (symbol : ℕ) → Exactly (backRows table symbol (symbolCount table)) (P .arityOf table symbol)
+  pub pair-of : (table : List ℕ) (index : ℕ) → Exactly (backRows table index (pairCount table)) (P .pairOf table index)
+  -- refusals that show in what is handed back
+  pub subterm : (table term : List ℕ) (i : ℕ) → P .subterm table term i ≡ part 0 0 ↔ (Refuses (subtermRows table term) ⊎ (length term ≤ i))
+  pub nearer : (table heading one two : List ℕ) → P .nearer table heading one two ≡ neither ↔ Refuses (nearerRows table heading one two)
+  -- the numbers of the rows, in the order tested
+  pub order : Order
+  -- what is left in lent memory
+  pub match-leaves : (table pattern heading : List ℕ) (cut : ℕ) (spans sets : List ℕ) → AfterRefusal spans sets (P .match table pattern heading cut spans sets)
+  pub writer-leaves : (arities : List ℕ) (pairs : List Pair) (output : List ℕ) (n place : ℕ)
+      → P .writeTable arities pairs output .answer ≡ refused n place → P .writeTable arities pairs output .output ≡ output
+  pub lengths : Lengths (P .match) (P .writeTable)
