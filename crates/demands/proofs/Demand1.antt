@@ -4,18 +4,18 @@ use mathlib.Core.Path.{_≡_, refl, sym as inv, ap, _∙_}
 use mathlib.Core.Logic.{_↔_, _⊎_, inl, inr}
 use mathlib.Core.List.{List}
 use mathlib.Core.Option.{Option, none, some as just}
-use Prim.Native.Nat.{ℕ, _+_, _≤_, _<_}
+use Prim.Native.Nat.{ℕ, _≤_, _<_}
 use native.Mathlib.Decide.{decLt}
 use native.Mathlib.Omega.{arith}
 use lib.ListN.{length}
 use Rattle.theory.specs.Tree.{Pattern, var, sym, encₚ}
-use Rattle.meaning.specs.Refusals.{Refusal, refusal, Row, first}
-use Rattle.meaning.specs.Calls.{Answer, refused, gives, isTable, symbolDegree, headingDegree, Part, part, subtermRows, subterm, Degrees, lowestIn, highestIn, matched, matchCall, written, arityBack, pairBack}
+use Rattle.meaning.specs.Refusals.{Refusal, refusal, first}
+use Rattle.meaning.specs.Calls.{Answer, refused, isTable, symbolDegree, headingDegree, part, subtermRows, subterm, Degrees, lowestIn, highestIn, matched, written, arityBack, pairBack}
 use Rattle.meaning.proofs.First.{first-given, exactly, order}
 use Rattle.meaning.proofs.Parts.{subterms, nearest}
 use Rattle.meaning.proofs.Lengths.{leaves, lengths}
 use Rattle.meaning.proofs.RoundTrip.{round-trip}
-use Rattle.demands.specs.Demand1.{Refuses, AfterRefusal, Demand1}
+use Rattle.demands.specs.Demand1.{Refuses, Demand1}
 use Rattle.demands.proofs.Meant.{meant}
 
 -- ---- the empty part
@@ -45,11 +45,6 @@ empty-part table term i = ((λ e. go (first (subtermRows table term)) refl (decL
 no-degrees : (a : Answer Degrees) (n place : ℕ) → a ≡ refused n place → (lowestIn a ≡ 0) × (highestIn a ≡ 0)
 no-degrees a n place e = (ap lowestIn e, ap highestIn e)
 
-after : (table pattern heading : List ℕ) (cut : ℕ) (spans sets : List ℕ) → AfterRefusal spans sets (matchCall table pattern heading cut spans sets)
-after table pattern heading cut spans sets =
-    let l = leaves table pattern heading cut spans sets in
-    record { no-degrees = no-degrees (matched table pattern heading cut spans sets); left = l .unchanged; cleared = l .cleared }
-
 -- THEOREM
 pub demand1 : Demand1 meant
 unfolding isTable symbolDegree headingDegree matched written arityBack pairBack
@@ -65,7 +60,8 @@ demand1 =
       subterm = empty-part;
       nearer = nearest .neither-if;
       order = order;
-      match-leaves = after;
+      no-degrees = λ table pattern heading cut spans sets. no-degrees _;
+      match-leaves = leaves;
       writer-leaves = λ arities pairs output. round-trip .read-written arities pairs output .refusal-leaves;
       lengths = lengths;
     }

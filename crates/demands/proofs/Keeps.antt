@@ -3,10 +3,12 @@ use Rattle.demands.specs.Program.{Program, Promise}
 use Rattle.demands.specs.Demand1.{Demand1}
 use Rattle.demands.specs.Demand2.{Demand2}
 use Rattle.demands.specs.Demand3.{Demand3}
+use Rattle.demands.specs.Further.{Further}
 use Rattle.demands.proofs.Meant.{carried}
 use Rattle.demands.proofs.Demand1.{demand1}
 use Rattle.demands.proofs.Demands.{demand2, demand3}
+use Rattle.demands.proofs.Further.{further}
 
 -- THEOREM
-pub keeps : (P : Program) → Promise P → Demand1 P × Demand2 P × Demand3 P
-keeps = carried (λ P. Demand1 P × Demand2 P × Demand3 P) (demand1, demand2, demand3)
+pub keeps : (P : Program) → Promise P → Demand1 P × Demand2 P × Demand3 P × Further P
+keeps = carried (λ P. Demand1 P × Demand2 P × Demand3 P × Further P) (demand1, demand2, demand3, further)

@@ -1,29 +1,22 @@
--- Demand 1: for everything that can be lent, each call is refused exactly by the first of its rows that holds, at that row's place; and what a
--- refusal leaves in lent memory is fixed.
+-- Demand 1: for everything that can be lent, each call is refused exactly by the first of its rows that holds, at that row's place; a refused match
+-- returns no degrees, and what is left in lent memory is fixed (`Leaves`: both buffers as they were by 1 to 8, zeros by 9 to 11, and zeros
+-- wherever an answered match packs nothing).
 use mathlib.Core.Path.{_≡_}
 use mathlib.Core.Logic.{_↔_, _⊎_}
 use mathlib.Core.List.{List}
-use Prim.Native.Nat.{ℕ, _≤_, _<_}
+use Prim.Native.Nat.{ℕ, _≤_}
 use lib.ListN.{length}
 use Rattle.theory.specs.Pairs.{Pair}
 use Rattle.meaning.specs.File.{symbolCount, pairCount}
 use Rattle.meaning.specs.Refusals.{Row, Given, tableRows}
-use Rattle.meaning.specs.Calls.{refused, degreeRows, part, subtermRows, neither, nearerRows, lowestIn, highestIn, Matched, zeros, matchRows, writerRows, backRows}
+use Rattle.meaning.specs.Calls.{refused, degreeRows, part, subtermRows, neither, nearerRows, lowestIn, highestIn, matchRows, writerRows, backRows}
 use Rattle.meaning.specs.Demands.{Exactly, Order}
-use Rattle.meaning.specs.Tables.{Wrote}
-use Rattle.meaning.specs.Matching.{Lengths}
+use Rattle.meaning.specs.Matching.{Leaves, Lengths}
 use Rattle.demands.specs.Program.{Program}
 
 -- One of the rows refuses.
 abbrev pub Refuses : List Row → Type 0
 Refuses rows = (n : ℕ) × (place : ℕ) × Given rows n place
-
--- What a refused match returns and leaves: the degrees 0 and 0; both buffers as they were lent where its input or its room is refused (1 to 8), and
--- zeros in both, to their ends, where the search is (9 to 11).
-pub record AfterRefusal (spans sets : List ℕ) (r : Matched) : Type 0 where
-  pub no-degrees : (n place : ℕ) → r .answer ≡ refused n place → (lowestIn (r .answer) ≡ 0) × (highestIn (r .answer) ≡ 0)
-  pub left : (n place : ℕ) → r .answer ≡ refused n place → n ≤ 8 → (r .spans ≡ spans) × (r .sets ≡ sets)
-  pub cleared : (n place : ℕ) → r .answer ≡ refused n place → 8 < n → (r .spans ≡ zeros (length spans)) × (r .sets ≡ zeros (length sets))
 
 pub record Demand1 (P : Program) : Type 0 where
   -- refusals with a number and a place
@@ -40,8 +33,11 @@ pub record Demand1 (P : Program) : Type 0 where
   pub nearer : (table heading one two : List ℕ) → P .nearer table heading one two ≡ neither ↔ Refuses (nearerRows table heading one two)
   -- the numbers of the rows, in the order tested
   pub order : Order
-  -- what is left in lent memory
-  pub match-leaves : (table pattern heading : List ℕ) (cut : ℕ) (spans sets : List ℕ) → AfterRefusal spans sets (P .match table pattern heading cut spans sets)
+  -- what a refused match returns, and what is left in lent memory
+  pub no-degrees : (table pattern heading : List ℕ) (cut : ℕ) (spans sets : List ℕ) (n place : ℕ)
+      → P .match table pattern heading cut spans sets .answer ≡ refused n place
+      → (lowestIn (P .match table pattern heading cut spans sets .answer) ≡ 0) × (highestIn (P .match table pattern heading cut spans sets .answer) ≡ 0)
+  pub match-leaves : (table pattern heading : List ℕ) (cut : ℕ) (spans sets : List ℕ) → Leaves spans sets (P .match table pattern heading cut spans sets)
   pub writer-leaves : (arities : List ℕ) (pairs : List Pair) (output : List ℕ) (n place : ℕ)
       → P .writeTable arities pairs output .answer ≡ refused n place → P .writeTable arities pairs output .output ≡ output
   pub lengths : Lengths (P .match) (P .writeTable)

@@ -1,12 +1,12 @@
--- What else is said of the match: why it is refused, what its sets hold, what it leaves in lent memory. Statements; the proofs are in
--- proofs/Reasons, proofs/Sentences and proofs/Lengths.
+-- What else is said of the match: why it is refused, what its sets hold, where its variables are packed, what it leaves in lent memory.
+-- Statements; the proofs are in proofs/Reasons, proofs/Sentences, proofs/Spans and proofs/Lengths.
 use mathlib.Core.Path.{_≡_}
 use mathlib.Core.Logic.{_↔_}
-use mathlib.Core.List.{List}
+use mathlib.Core.List.{List, [], _∷_, _++_}
 use mathlib.Core.Bool.{true, false}
-use Prim.Native.Nat.{ℕ, _+_, _*_, _≤_, _<_}
+use Prim.Native.Nat.{ℕ, _+_, _*_, _/_, _≤_, _<_}
 use lib.ListN.{length, getD}
-use Rattle.theory.specs.Tree.{Term, Pattern, stands}
+use Rattle.theory.specs.Tree.{Term, Pattern, var, sym, Patterns, ∅ₚ, _▸_, stands}
 use Rattle.theory.specs.Least.{All}
 use Rattle.theory.specs.Table.{Table}
 use Rattle.theory.specs.Faces.{faces, facing}
@@ -14,8 +14,8 @@ use Rattle.theory.specs.Match.{at, ClashAt}
 use Rattle.theory.specs.Verdict.{MeansFormless}
 use Rattle.theory.specs.Pairs.{Pair}
 use Rattle.meaning.specs.Limits.{setWords, setRoom, variableCount, spanWidth}
-use Rattle.meaning.specs.Packing.{packedCount}
-use Rattle.meaning.specs.Calls.{refused, gives, Degrees, zeros, facesIn, Matched}
+use Rattle.meaning.specs.Packing.{firsts, startIn}
+use Rattle.meaning.specs.Calls.{refused, gives, Degrees, zeros, Matched}
 use Rattle.meaning.specs.Buffers.{firstPosition, positionCount, holds}
 use Rattle.meaning.specs.Tables.{Wrote}
 
@@ -41,13 +41,33 @@ pub record SetsAndDegrees (T : Table) (cut : ℕ) (p : Pattern) (h : Term) (r : 
   pub highest-top : high ≤ 1000
   pub no-variables : ((v : ℕ) → stands v p ≡ false) → low ≡ high
 
--- What a match leaves in the two buffers: what was lent, where its input or the room is refused; zeros, where the search is; and zeros after what
--- was packed, where it is answered.
-pub record Leaves (table pattern heading : List ℕ) (cut : ℕ) (spans sets : List ℕ) (r : Matched) : Type 0 where
+-- The variables of a pattern, in preorder, as often as they stand there.
+abbrev mutual
+  pub standing : Pattern → List ℕ
+  standing (var v) = v ∷ []
+  standing (sym f ps) = standings ps
+
+  pub standings : Patterns → List ℕ
+  standings ∅ₚ = []
+  standings (p ▸ ps) = standing p ++ standings ps
+
+-- Where an answered match has packed its variables: one that does not stand in the pattern has 0 and 0; the others follow one another without
+-- gaps, in the order in which they first stand there.
+pub record PackedInOrder (p : Pattern) (r : Matched) : Type 0 where
+  pub absent : (v : ℕ) → v < variableCount → stands v p ≡ false → (firstPosition (r .spans) v ≡ 0) × (positionCount (r .spans) v ≡ 0)
+  pub starts : (v : ℕ) → stands v p ≡ true → firstPosition (r .spans) v ≡ startIn (positionCount (r .spans)) v (firsts (standing p))
+
+-- The position is one of variable v's.
+abbrev pub InSpan : List ℕ → ℕ → ℕ → Type 0
+InSpan spans v position = (firstPosition spans v ≤ position) × (position < firstPosition spans v + positionCount spans v)
+
+-- What a match leaves in the two buffers: what was lent, where its input or the room is refused; zeros, where the search is; and where it is
+-- answered, zeros past the spans, and zeros in every word that is at no variable's position.
+pub record Leaves (spans sets : List ℕ) (r : Matched) : Type 0 where
   pub unchanged : (n place : ℕ) → r .answer ≡ refused n place → n ≤ 8 → (r .spans ≡ spans) × (r .sets ≡ sets)
   pub cleared : (n place : ℕ) → r .answer ≡ refused n place → 8 < n → (r .spans ≡ zeros (length spans)) × (r .sets ≡ zeros (length sets))
   pub other-spans : (d : Degrees) → r .answer ≡ gives d → (i : ℕ) → spanWidth * variableCount ≤ i → getD (r .spans) i 0 ≡ 0
-  pub other-sets : (d : Degrees) → r .answer ≡ gives d → (i : ℕ) → setWords * packedCount (facesIn table pattern heading) ≤ i
+  pub other-sets : (d : Degrees) → r .answer ≡ gives d → (i : ℕ) → ((v : ℕ) → v < variableCount → InSpan (r .spans) v (i / setWords) → ⊥)
       → getD (r .sets) i 0 ≡ 0
 
 -- Lent memory keeps its length, whatever is lent.

@@ -1,0 +1,61 @@
+-- What else is said holds of the meaning's program: each sentence is a law of the meaning's calls, and the trees that a list writes are the ones
+-- that the laws speak of, since it writes no other.
+use mathlib.Core.Path.{_≡_, refl, sym as inv, ap, _∙_}
+use mathlib.Core.Logic.{_↔_}
+use mathlib.Core.List.{List}
+use mathlib.Core.Option.{Option, none}
+use Prim.Native.Nat.{ℕ}
+use Rattle.theory.specs.Tree.{Term, Pattern}
+use Rattle.meaning.specs.File.{tableIn}
+use Rattle.meaning.specs.Refusals.{first, tableRows}
+use Rattle.meaning.specs.Calls.{gives, aye, isTable, matchCall}
+use Rattle.meaning.specs.Demands.{WritesTerm, WritesPattern, Accepted}
+use Rattle.meaning.specs.Tables.{TableFile}
+use Rattle.meaning.proofs.First.{unless-gives}
+use Rattle.meaning.proofs.Recognised.{recognised}
+use Rattle.meaning.proofs.Degrees.{symbol-degrees}
+use Rattle.meaning.proofs.Back.{reads-back}
+use Rattle.meaning.proofs.RoundTrip.{round-trip}
+use Rattle.meaning.proofs.Parts.{terms, subterms, nearest}
+use Rattle.meaning.proofs.Matched.{Ready, ready}
+use Rattle.meaning.proofs.Reasons.{reasons}
+use Rattle.meaning.proofs.Sentences.{sentences}
+use Rattle.meaning.proofs.Spans.{answered-none, packed-in-order}
+use Rattle.demands.specs.Further.{MatchSays, Further}
+use Rattle.demands.proofs.Meant.{meant}
+use Rattle.demands.proofs.Paired.{lowest-paired, higher-handed}
+
+is-table : (file : List ℕ) → isTable file ≡ gives aye ↔ TableFile file
+unfolding isTable
+is-table file = (
+  (λ e. recognised file .0 (unless-gives (first (tableRows file)) aye aye e .0)),
+  (λ t. rw (recognised file .1 t)),
+)
+
+says : (table pattern heading : List ℕ) (cut : ℕ) (spans sets : List ℕ) → Accepted table pattern heading cut spans sets
+    → (p : Pattern) → WritesPattern (tableIn table) pattern p → (h : Term) → WritesTerm (tableIn table) heading h
+    → MatchSays (tableIn table) cut p h pattern (matchCall table pattern heading cut spans sets)
+says table pattern heading cut spans sets a p wp h wh =
+    let r : Ready table pattern heading cut = ready table pattern heading cut spans sets a in
+    rw (r .pattern-is .only p wp, r .heading-is .only h wh)
+    (record {
+      reasons = reasons table pattern heading cut spans sets a;
+      sets-and-degrees = sentences table pattern heading cut spans sets a;
+      packed = λ d e. packed-in-order table pattern heading cut spans sets (answered-none table pattern heading cut spans sets d e);
+    })
+
+-- THEOREM
+pub further : Further meant
+further =
+    record {
+      recognised = is-table;
+      symbol-degrees = symbol-degrees;
+      reads-back = reads-back;
+      round-trip = round-trip;
+      terms = terms;
+      paired = lowest-paired;
+      subterms = subterms;
+      nearest = nearest;
+      higher = higher-handed;
+      matches = says;
+    }

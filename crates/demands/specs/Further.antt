@@ -1,0 +1,53 @@
+-- What else is said of a program's calls: on tables, on headings and their parts, on the match.
+use mathlib.Core.Path.{_≡_}
+use mathlib.Core.Logic.{_↔_}
+use mathlib.Core.List.{List}
+use Prim.Native.Nat.{ℕ, _≤_, _<_}
+use lib.ListN.{length, getD}
+use Rattle.theory.specs.Tree.{Term, Pattern}
+use Rattle.theory.specs.Table.{Table}
+use Rattle.meaning.specs.File.{tableIn}
+use Rattle.meaning.specs.Refusals.{SoundFile}
+use Rattle.meaning.specs.Calls.{Answer, gives, aye, Degrees, degrees, Matched}
+use Rattle.meaning.specs.Demands.{WritesTerm, WritesPattern, Accepted}
+use Rattle.meaning.specs.Tables.{TableFile, SymbolDegrees, ReadBack, RoundTrip}
+use Rattle.meaning.specs.Parts.{TermLists, Subterms, Nearest}
+use Rattle.meaning.specs.Matching.{Reasons, SetsAndDegrees, PackedInOrder}
+use Rattle.demands.specs.Program.{Program, handedBack}
+
+-- ---- headings, by what the program itself says of symbols and of headings
+
+-- The degree d of two headings is the lowest over all symbols that stand at one place in both lists; it is 0 where one list is longer.
+pub record LowestPaired (degreeOf : ℕ → ℕ → Answer ℕ) (one two : List ℕ) (d : ℕ) : Type 0 where
+  pub one-longer : (length one ≡ length two → ⊥) → d ≡ 0
+  pub bounds : length one ≡ length two → (k : ℕ) → k < length one → (e : ℕ) → degreeOf (getD one k 0) (getD two k 0) ≡ gives e → d ≤ e
+  pub reached : length one ≡ length two → (k : ℕ) × (k < length one) × (degreeOf (getD one k 0) (getD two k 0) ≡ gives d)
+
+-- The list handed back is the candidate with the higher degree, whole; the first where the degrees are equal.
+pub record HigherHanded (degreeWith : List ℕ → Answer ℕ) (one two list : List ℕ) : Type 0 where
+  pub the-first : (d e : ℕ) → degreeWith one ≡ gives d → degreeWith two ≡ gives e → e ≤ d → list ≡ one
+  pub the-second : (d e : ℕ) → degreeWith one ≡ gives d → degreeWith two ≡ gives e → d < e → list ≡ two
+
+-- ---- a match that is not refused for its input or its room, of a list that writes p and one that writes h: the reasons of a refusal; the sets and
+-- the degrees of an answer, and where its variables are packed
+pub record MatchSays (T : Table) (cut : ℕ) (p : Pattern) (h : Term) (pattern : List ℕ) (r : Matched) : Type 0 where
+  pub reasons : Reasons T cut p h pattern r
+  pub sets-and-degrees : (low high : ℕ) → r .answer ≡ gives (degrees low high) → SetsAndDegrees T cut p h r low high
+  pub packed : (d : Degrees) → r .answer ≡ gives d → PackedInOrder p r
+
+pub record Further (P : Program) : Type 0 where
+  -- tables
+  pub recognised : (file : List ℕ) → P .isTable file ≡ gives aye ↔ TableFile file
+  pub symbol-degrees : (table : List ℕ) → SoundFile table → SymbolDegrees table (P .symbolDegree table)
+  pub reads-back : (table : List ℕ) → SoundFile table → ReadBack table (P .arityOf table) (P .pairOf table)
+  pub round-trip : RoundTrip (P .writeTable)
+  -- headings and their parts
+  pub terms : (table : List ℕ) → SoundFile table → TermLists table
+  pub paired : (table one two : List ℕ) (d : ℕ) → P .headingDegree table one two ≡ gives d → LowestPaired (P .symbolDegree table) one two d
+  pub subterms : Subterms (P .subterm)
+  pub nearest : Nearest (P .nearer)
+  pub higher : (table heading one two : List ℕ) → HigherHanded (P .headingDegree table heading) one two (handedBack (P .nearer table heading one two) one two)
+  -- the match
+  pub matches : (table pattern heading : List ℕ) (cut : ℕ) (spans sets : List ℕ) → Accepted table pattern heading cut spans sets
+      → (p : Pattern) → WritesPattern (tableIn table) pattern p → (h : Term) → WritesTerm (tableIn table) heading h
+      → MatchSays (tableIn table) cut p h pattern (P .match table pattern heading cut spans sets)

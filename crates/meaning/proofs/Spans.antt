@@ -1,0 +1,117 @@
+-- Where an answered match packs its variables, as one reads it in the spans: the two numbers of a variable are what was packed for it, 0 and 0 for one
+-- that does not stand in the pattern; and where nothing clashes the order of packing is that of the pattern.
+use mathlib.Core.Path.{_≡_, refl, sym as inv, ap, ap₂, _∙_}
+use mathlib.Core.List.{List, [], _∷_, _++_}
+use mathlib.Core.Bool.{Bool, true, false, cond}
+use mathlib.Core.Option.{none}
+use Prim.Native.Nat.{ℕ, _+_, _*_, _-_, _<_}
+use native.Mathlib.Omega.{arith}
+use lib.Dec.{eqb}
+use lib.ListN.{length, getD}
+use borrow.Author.Tests.{eq-eqb}
+use Rattle.theory.specs.Tree.{Term, Pattern, stands}
+use Rattle.theory.specs.Table.{Table, Overₚ}
+use Rattle.theory.specs.Least.{All}
+use Rattle.theory.specs.Faces.{Face, faces}
+use Rattle.theory.specs.Match.{lowestOf, highestOf}
+use Rattle.theory.specs.Decode.{patternOf, termOf}
+use Rattle.theory.proofs.Decoding.{fine-over}
+use Rattle.theory.proofs.Matchers.{Clear, none-clear}
+use Rattle.theory.proofs.Present.{present}
+use Rattle.theory.proofs.Verdict.{stands-small}
+use Rattle.meaning.specs.Limits.{variableCount, spanWidth}
+use Rattle.meaning.specs.File.{tableIn}
+use Rattle.meaning.specs.Refusals.{first}
+use Rattle.meaning.specs.Packing.{firsts, order, countOf, startIn, among, spanOf, packedSpans}
+use Rattle.meaning.specs.Calls.{gives, Degrees, degrees, zeros, facesIn, inputRows, searchRows, matchRows, matched, laterSpans, matchCall}
+use Rattle.meaning.specs.Buffers.{firstPosition, positionCount}
+use Rattle.meaning.specs.Demands.{Accepted}
+use Rattle.meaning.specs.Matching.{standing, PackedInOrder}
+use Rattle.meaning.proofs.First.{append-none, unless-gives}
+use Rattle.meaning.proofs.Packing.{order-among, span-at}
+use Rattle.meaning.proofs.Standing.{absent-order, packed-stands, variables-standing}
+use Rattle.meaning.proofs.Matched.{Ready, ready, given-none, match-ends, spans-are}
+
+-- ---- starts by counts that agree
+
+start-counts : (f g : ℕ → ℕ) (v : ℕ) (ws : List ℕ) → ((w : ℕ) → among w ws ≡ true → f w ≡ g w) → startIn f v ws ≡ startIn g v ws
+start-counts f g v [] e = refl
+start-counts f g v (x ∷ xs) e =
+    ap₂ (λ a b. cond (eqb v x) 0 (a + b)) (e x (rw (eq-eqb x x refl))) (start-counts f g v xs (λ w m. e w (more w m)))
+  where
+    more : (w : ℕ) → among w xs ≡ true → cond (eqb w x) true (among w xs) ≡ true
+    more w m = go (eqb w x)
+      where
+        go : (b : Bool) → cond b true (among w xs) ≡ true
+        go true = refl
+        go false = m
+
+module _ (table pattern heading : List ℕ) (cut : ℕ) (spans sets : List ℕ) where
+  abbrev T : Table
+  T = tableIn table
+
+  abbrev p : Pattern
+  p = patternOf (tableIn table) pattern
+
+  abbrev h : Term
+  h = termOf (tableIn table) heading
+
+  abbrev fs : List Face
+  fs = faces (patternOf (tableIn table) pattern) (termOf (tableIn table) heading)
+
+  abbrev left : List ℕ
+  left = laterSpans table pattern heading cut spans sets
+
+  -- an answered match is refused by no row
+  pub answered-none : (d : Degrees) → matched table pattern heading cut spans sets ≡ gives d → first (matchRows table pattern heading cut spans sets) ≡ none
+  unfolding matched
+  answered-none d e = unless-gives (first (matchRows table pattern heading cut spans sets)) _ d e .0
+
+  module _ (e : first (matchRows table pattern heading cut spans sets) ≡ none) where
+    pub accepted : Accepted table pattern heading cut spans sets
+    unfolding matchRows
+    accepted = append-none (inputRows table pattern heading cut spans sets) (searchRows table pattern heading cut) e .0
+
+    r : Ready table pattern heading cut
+    r = ready table pattern heading cut spans sets accepted
+
+    -- the two numbers of a variable
+    span-read : (v : ℕ) → v < variableCount → (firstPosition left v ≡ getD (spanOf fs v) 0 0) × (positionCount left v ≡ getD (spanOf fs v) 1 0)
+    span-read v l =
+        let n = length spans - length (packedSpans fs) in
+        let z : spanWidth * v ≡ spanWidth * v + 0 = omega arith in
+        rw (spans-are table pattern heading cut spans sets e) (
+          ap (λ i. getD (packedSpans fs ++ zeros n) i 0) z ∙ span-at fs (zeros n) v 0 l (omega arith),
+          span-at fs (zeros n) v 1 l (omega arith),
+        )
+
+    pub packed-small : (v : ℕ) → among v (order fs) ≡ true → v < variableCount
+    packed-small v m = stands-small T v p (r .pattern-is .holds .fine) (packed-stands v p h m)
+
+    -- LAW: of a variable that is packed
+    pub packed-read : (v : ℕ) → among v (order fs) ≡ true → (firstPosition left v ≡ startIn (countOf fs) v (order fs)) × (positionCount left v ≡ countOf fs v)
+    packed-read v m =
+        let s = span-read v (packed-small v m) in
+        (s .0 ∙ rw m, s .1 ∙ rw m)
+
+    absent : (v : ℕ) → v < variableCount → stands v p ≡ false → (firstPosition left v ≡ 0) × (positionCount left v ≡ 0)
+    absent v l s =
+        let m = absent-order v p h s in
+        let q = span-read v l in
+        (q .0 ∙ rw m, q .1 ∙ rw m)
+
+    op : Overₚ T p
+    op = fine-over T true p (r .pattern-is .holds .fine)
+
+    clear : All (Clear T cut) fs
+    clear = none-clear T cut fs (given-none _ _ _ (match-ends table pattern heading cut spans sets accepted r) e .0 .clear)
+
+    starts : (v : ℕ) → stands v p ≡ true → firstPosition left v ≡ startIn (positionCount left) v (firsts (standing p))
+    starts v s =
+        packed-read v (order-among v fs (present T (r .lawful) cut (r .positive) v p h op (r .heading-is .holds .over) clear s)) .0
+        ∙ start-counts (countOf fs) (positionCount left) v (order fs) (λ w m. inv (packed-read w m .1))
+        ∙ ap (λ l. startIn (positionCount left) v (firsts l)) (variables-standing T (r .lawful) cut (r .positive) p h op (r .heading-is .holds .over) clear)
+
+    -- THEOREM: where an answered match packs its variables
+    pub packed-in-order : PackedInOrder p (matchCall table pattern heading cut spans sets)
+    packed-in-order = record { absent = absent; starts = starts }
