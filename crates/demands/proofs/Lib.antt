@@ -4,3 +4,4 @@ pub mod Demands
 pub mod Paired
 pub mod Further
 pub mod Keeps
+pub mod Instances

@@ -1,0 +1,76 @@
+-- No statement rests on a hypothesis that cannot be met: here each is met, by table T of the examples and what the listing asks of it, and by
+-- computing. What cannot be met is said to be so: 11 is never given (`Reasons.never-eleven`).
+use mathlib.Core.Path.{_≡_, refl}
+use mathlib.Core.List.{List, [], _∷_}
+use mathlib.Core.Bool.{true, false}
+use mathlib.Core.Option.{none}
+use Prim.Native.Nat.{ℕ, _≤_, _<_}
+use native.Mathlib.Omega.{arith}
+use lib.Dec.{lit<, lit≤}
+use lib.ListN.{length}
+use Rattle.theory.specs.Tree.{stands}
+use Rattle.theory.specs.Table.{degree}
+use Rattle.theory.specs.Read.{walk, several}
+use Rattle.theory.specs.Decode.{patternOf, termOf, parse, parseRow}
+use Rattle.meaning.specs.Limits.{variableCount}
+use Rattle.meaning.specs.File.{symbolCount, pairCount, aritiesIn, pairsIn, tableIn, fileOf}
+use Rattle.meaning.specs.Refusals.{first, Given, row1-short, row1-offsets, row2, row3, row4, row5, row6, row7, row8, row8-output, row9, row10, row11, tableRows, SoundFile}
+use Rattle.meaning.specs.Packing.{packedCount}
+use Rattle.meaning.specs.Calls.{refused, gives, degreeRows, headingDegree, subtermRows, nearerRows, degrees, zeros, facesIn, inputRows, searchRows, matchRows, matched, writerRows, written, laterOutput}
+use Rattle.meaning.specs.Demands.{WritesTerm, WritesPattern, Accepted}
+use Rattle.meaning.specs.Tables.{Bytes}
+use Rattle.meaning.proofs.RoundTrip.{round-trip}
+use Rattle.meaning.proofs.Examples.{T, arities, pairs, p, h}
+use Rattle.meaning.proofs.Wrong.{P, H, writes-P, writes-H}
+
+-- what the listing asks, at a cut, of buffers that have just the room
+abbrev asked : ℕ → Type 0
+asked cut = Accepted T p h cut (zeros 64) (zeros 20)
+
+-- Demand 1: a row that refuses, with none before it
+pub met1 : Given (tableRows []) 1 0
+unfolding tableRows row1-short
+met1 = record { index = 0; inside = lit< tt; holds = refl; none-before = λ k l. absurd (omega arith) }
+
+-- Demand 2: two headings and a match that are not refused; at 701 there is no match, at 500 there is one
+pub met2 : (first (degreeRows T (1 ∷ 5 ∷ []) (4 ∷ 7 ∷ [])) ≡ none) × asked 500 × asked 701
+    × (matched T p h 701 (zeros 64) (zeros 20) ≡ refused 10 0) × (matched T p h 500 (zeros 64) (zeros 20) ≡ gives (degrees 500 700))
+unfolding
+    degreeRows matched matchRows inputRows searchRows facesIn packedCount tableRows row1-short row1-offsets row2 row3 row4 row5 row6 row7 row8 row9 row10 row11 tableIn aritiesIn pairsIn
+    patternOf termOf parse parseRow walk several
+met2 = (refl, refl, refl, refl, refl)
+
+-- Demand 3: two cuts, with neither call refused for its input or its room; the second answers, and the first's highest degree reaches it
+pub met3 : (500 ≤ 600) × asked 500 × asked 600
+    × (matched T p h 600 (zeros 64) (zeros 20) ≡ gives (degrees 600 700)) × (matched T p h 500 (zeros 64) (zeros 20) ≡ gives (degrees 500 700)) × (600 ≤ 700)
+unfolding
+    matched matchRows inputRows searchRows facesIn packedCount tableRows row1-short row1-offsets row2 row3 row4 row5 row6 row7 row8 row9 row10 row11 tableIn aritiesIn pairsIn
+    patternOf termOf parse parseRow walk several
+met3 = (lit≤ tt, refl, refl, refl, refl, lit≤ tt)
+
+-- T is what the writer writes, and that are bytes
+bytes : Bytes T
+unfolding written laterOutput writerRows row2 row3 row4 row8-output fileOf
+bytes = round-trip .read-written arities pairs (zeros 66) .is-bytes 66 refl
+
+-- Further, tables: a table with symbols and pairs, of bytes; and what the writer takes
+pub met-tables : SoundFile T × (0 < symbolCount T) × (0 < pairCount T) × Bytes T × (length T ≤ length (zeros 66)) × (written arities pairs (zeros 66) ≡ gives 66)
+unfolding tableRows row1-short row1-offsets row2 row3 row4 row8-output aritiesIn pairsIn written writerRows
+met-tables = (refl, lit< tt, lit< tt, bytes, lit≤ tt, refl)
+
+-- Further, headings: two that have a degree, a subterm, and two candidates of which the second is nearer
+pub met-headings : (headingDegree T (1 ∷ 5 ∷ []) (4 ∷ 7 ∷ []) ≡ gives 700) × (first (subtermRows T h) ≡ none) × (1 < length h)
+    × (first (nearerRows T (5 ∷ []) (6 ∷ []) (7 ∷ [])) ≡ none)
+    × (headingDegree T (5 ∷ []) (6 ∷ []) ≡ gives 500) × (headingDegree T (5 ∷ []) (7 ∷ []) ≡ gives 700)
+unfolding
+    headingDegree degreeRows subtermRows nearerRows tableRows row1-short row1-offsets row2 row3 row4 row6 row7 tableIn aritiesIn pairsIn patternOf termOf parse parseRow walk several degree
+met-headings = (refl, refl, lit< tt, refl, refl, refl)
+
+-- Further, the match: the trees that the two lists write, a variable that stands in the pattern and one that does not; a clash, at the pattern's
+-- first node; and a pattern without variables
+pub met-match : WritesPattern (tableIn T) p P × WritesTerm (tableIn T) h H × (stands 0 P ≡ true) × (stands 31 P ≡ false) × (31 < variableCount)
+    × (matched T (1 ∷ 32768 ∷ []) (2 ∷ 6 ∷ []) 501 (zeros 64) (zeros 8) ≡ refused 9 0) × (matched T (5 ∷ []) (7 ∷ []) 700 (zeros 64) (zeros 4) ≡ gives (degrees 700 700))
+unfolding
+    matched matchRows inputRows searchRows facesIn packedCount tableRows row1-short row1-offsets row2 row3 row4 row5 row6 row7 row8 row9 row10 row11 tableIn aritiesIn pairsIn
+    patternOf termOf parse parseRow walk several
+met-match = (writes-P, writes-H, refl, refl, lit< tt, refl, refl)
