@@ -5,3 +5,6 @@ pub mod Paired
 pub mod Further
 pub mod Keeps
 pub mod Instances
+pub mod Wrong
+pub mod WrongRefusals
+pub mod WrongAbsent

@@ -1,23 +1,29 @@
 -- The program that the meaning is. A program that keeps its promises is equal to it, call by call; so what holds of it holds of every such
 -- program, and any two such programs are equal.
 use mathlib.Core.Path.{_≡_, sym as inv, _∙_, subst}
-use Rattle.meaning.specs.Calls.{isTable, symbolDegree, headingDegree, subterm, nearer, matchCall, arityBack, pairBack}
+use mathlib.Core.List.{List}
+use Prim.Native.Nat.{ℕ}
+use Rattle.meaning.specs.Calls.{isTable, symbolDegree, headingDegree, subterm, nearer, Matched, matchCall, arityBack, pairBack}
 use Rattle.meaning.specs.Tables.{writeCall}
 use Rattle.demands.specs.Program.{Program, Promise}
 
-abbrev pub meant : Program
-meant =
+-- the meaning's calls, with some match or other
+abbrev pub withMatch : ((table pattern heading : List ℕ) (cut : ℕ) (spans sets : List ℕ) → Matched) → Program
+withMatch other =
     record {
       isTable = isTable;
       symbolDegree = symbolDegree;
       headingDegree = headingDegree;
       subterm = subterm;
       nearer = nearer;
-      match = matchCall;
+      match = other;
       writeTable = writeCall;
       arityOf = arityBack;
       pairOf = pairBack;
     }
+
+abbrev pub meant : Program
+meant = withMatch matchCall
 
 -- LAW: a program that keeps its promises is the meaning's
 pub is-meant : (P : Program) → Promise P → P ≡ meant
