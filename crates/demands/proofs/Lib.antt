@@ -8,3 +8,4 @@ pub mod Instances
 pub mod Wrong
 pub mod WrongRefusals
 pub mod WrongAbsent
+pub mod WrongPlaces
