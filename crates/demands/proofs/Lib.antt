@@ -9,3 +9,4 @@ pub mod Wrong
 pub mod WrongRefusals
 pub mod WrongAbsent
 pub mod WrongPlaces
+pub mod WrongAllowed
