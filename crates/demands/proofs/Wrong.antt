@@ -40,8 +40,8 @@ module _ (P : Program) where
 
     -- 2. it always gives the same sets, whatever the cut
     pub always-same-fails : ((table pattern heading : List ℕ) (cut cut′ : ℕ) (spans sets : List ℕ)
-            → (P .match table pattern heading cut spans sets .spans ≡ P .match table pattern heading cut′ spans sets .spans)
-            × (P .match table pattern heading cut spans sets .sets ≡ P .match table pattern heading cut′ spans sets .sets))
+        → (P .match table pattern heading cut spans sets .spans ≡ P .match table pattern heading cut′ spans sets .spans)
+        × (P .match table pattern heading cut spans sets .sets ≡ P .match table pattern heading cut′ spans sets .sets))
         → ⊥
     always-same-fails w = let r = w T p h 500 700 (zeros 64) (zeros 20) in always-same (listed 500) (listed 700) (r .0) (r .1) (demanded .0) (demanded .2)
 

@@ -112,7 +112,7 @@ module _ (xs ys : List ℕ) (lx : 64 ≤ length xs) (ly : 64 ≤ length ys) (i :
       go false e true f = rw (eqb-true i 62 f) (at62 xs lx ∙ inv (at62 ys ly))
       go false e false f =
           let other : (zs : List ℕ) → getD (spoilt zs) i 0 ≡ getD zs i 0
-              = λ zs. getD-set-other (set zs 62 5) 63 i 3 0 (eqb-false i 63 e) ∙ getD-set-other zs 62 i 5 0 (eqb-false i 62 f) in
+          = λ zs. getD-set-other (set zs 62 5) 63 i 3 0 (eqb-false i 63 e) ∙ getD-set-other zs 62 i 5 0 (eqb-false i 62 f) in
           other xs ∙ q ∙ inv (other ys)
 
   spoiled-alike : (a a′ : Answer Degrees) (x x′ : Degrees) (b : Bool) → a ≡ gives x → a′ ≡ gives x′ → getD (spoil a b xs) i 0 ≡ getD (spoil a′ b ys) i 0
