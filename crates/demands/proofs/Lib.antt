@@ -10,3 +10,5 @@ pub mod WrongRefusals
 pub mod WrongAbsent
 pub mod WrongPlaces
 pub mod WrongAllowed
+pub mod Settled
+pub mod SettledFiles

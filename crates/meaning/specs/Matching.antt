@@ -4,7 +4,7 @@ use mathlib.Core.Path.{_≡_}
 use mathlib.Core.Logic.{_↔_}
 use mathlib.Core.List.{List, [], _∷_, _++_}
 use mathlib.Core.Bool.{true, false}
-use Prim.Native.Nat.{ℕ, _+_, _*_, _/_, _≤_, _<_}
+use Prim.Native.Nat.{ℕ, _+_, _*_, _/_, _^_, _≤_, _<_}
 use lib.ListN.{length, getD}
 use Rattle.theory.specs.Tree.{Term, Pattern, var, sym, Patterns, ∅ₚ, _▸_, stands}
 use Rattle.theory.specs.Least.{All}
@@ -13,7 +13,7 @@ use Rattle.theory.specs.Faces.{faces, facing}
 use Rattle.theory.specs.Match.{at, ClashAt}
 use Rattle.theory.specs.Verdict.{MeansFormless}
 use Rattle.theory.specs.Pairs.{Pair}
-use Rattle.meaning.specs.Limits.{setWords, setRoom, variableCount, spanWidth}
+use Rattle.meaning.specs.Limits.{wordBits, setWords, setRoom, variableCount, spanWidth}
 use Rattle.meaning.specs.Packing.{firsts, startIn}
 use Rattle.meaning.specs.Calls.{refused, gives, Degrees, zeros, Matched}
 use Rattle.meaning.specs.Buffers.{firstPosition, positionCount, holds}
@@ -62,13 +62,14 @@ abbrev pub InSpan : List ℕ → ℕ → ℕ → Type 0
 InSpan spans v position = (firstPosition spans v ≤ position) × (position < firstPosition spans v + positionCount spans v)
 
 -- What a match leaves in the two buffers: what was lent, where its input or the room is refused; zeros, where the search is; and where it is
--- answered, zeros past the spans, and zeros in every word that is at no variable's position.
+-- answered, zeros past the spans, zeros in every word that is at no variable's position, and in the others no more than a word's bits.
 pub record Leaves (spans sets : List ℕ) (r : Matched) : Type 0 where
   pub unchanged : (n place : ℕ) → r .answer ≡ refused n place → n ≤ 8 → (r .spans ≡ spans) × (r .sets ≡ sets)
   pub cleared : (n place : ℕ) → r .answer ≡ refused n place → 8 < n → (r .spans ≡ zeros (length spans)) × (r .sets ≡ zeros (length sets))
   pub other-spans : (d : Degrees) → r .answer ≡ gives d → (i : ℕ) → spanWidth * variableCount ≤ i → getD (r .spans) i 0 ≡ 0
   pub other-sets : (d : Degrees) → r .answer ≡ gives d → (i : ℕ) → ((v : ℕ) → v < variableCount → InSpan (r .spans) v (i / setWords) → ⊥)
       → getD (r .sets) i 0 ≡ 0
+  pub words-fit : (d : Degrees) → r .answer ≡ gives d → (i : ℕ) → getD (r .sets) i 0 < 2 ^ wordBits
 
 -- Lent memory keeps its length, whatever is lent.
 pub record Lengths (match : (table pattern heading : List ℕ) (cut : ℕ) (spans sets : List ℕ) → Matched) (write : List ℕ → List Pair → List ℕ → Wrote) : Type 0 where
