@@ -12,3 +12,5 @@ pub mod WrongPlaces
 pub mod WrongAllowed
 pub mod Settled
 pub mod SettledFiles
+pub mod SettledMatch
+pub mod Settles

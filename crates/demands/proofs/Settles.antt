@@ -1,0 +1,51 @@
+-- The other direction: demand 1, demand 2 and the further statements leave nothing open. A program that meets them keeps every promise, since of two
+-- programs that meet them each call gives the same, and the meaning's program meets them. So no wrong program is left that they allow.
+use mathlib.Core.List.{List}
+use Prim.Native.Nat.{ℕ}
+use Rattle.demands.specs.Program.{Program, Promise}
+use Rattle.demands.specs.Demand1.{Demand1}
+use Rattle.demands.specs.Demand2.{Demand2}
+use Rattle.demands.specs.Demand3.{Demand3}
+use Rattle.demands.specs.Further.{Further}
+use Rattle.demands.proofs.Meant.{meant}
+use Rattle.demands.proofs.Demand1.{demand1}
+use Rattle.demands.proofs.Demands.{demand2}
+use Rattle.demands.proofs.Further.{further}
+use Rattle.demands.proofs.Keeps.{keeps}
+use Rattle.demands.proofs.Settled.{same-is-table, same-symbol-degree, same-heading-degree, same-subterm, same-nearer}
+use Rattle.demands.proofs.SettledFiles.{same-arity-of, same-pair-of, same-writing}
+use Rattle.demands.proofs.SettledMatch.{Stated, same-match}
+
+-- what the statements say of each match
+stated : (P : Program) → Demand1 P → Demand2 P → Further P → (table pattern heading : List ℕ) (cut : ℕ) (spans sets : List ℕ)
+    → Stated table pattern heading cut spans sets (P .match table pattern heading cut spans sets)
+stated P one two more table pattern heading cut spans sets =
+    record {
+      exactly = one .match table pattern heading cut spans sets;
+      leaves = one .match-leaves table pattern heading cut spans sets;
+      spans-long = one .lengths .of-spans table pattern heading cut spans sets;
+      sets-long = one .lengths .of-sets table pattern heading cut spans sets;
+      decided = two .match table pattern heading cut spans sets;
+      says = more .matches table pattern heading cut spans sets;
+    }
+
+module _ (P : Program) (one : Demand1 P) (two : Demand2 P) (more : Further P) where
+  -- THEOREM
+  pub settles : Promise P
+  settles =
+      record {
+        is-table = same-is-table P meant one demand1 two demand2 more further;
+        symbol-degree = same-symbol-degree P meant one demand1 two demand2 more further;
+        heading-degree = same-heading-degree P meant one demand1 two demand2 more further;
+        subterm = same-subterm P meant one demand1 two demand2 more further;
+        nearer = same-nearer P meant one demand1 two demand2 more further;
+        match = λ table pattern heading cut spans sets.
+            same-match table pattern heading cut spans sets _ _ (stated P one two more table pattern heading cut spans sets) (stated meant demand1 demand2 further table pattern heading cut spans sets);
+        write-table = same-writing P meant one demand1 more further;
+        arity-of = same-arity-of P meant one demand1 more further;
+        pair-of = same-pair-of P meant one demand1 more further;
+      }
+
+  -- THEOREM: demand 3 follows from them
+  pub third-follows : Demand3 P
+  third-follows = keeps P settles .2
