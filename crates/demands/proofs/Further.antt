@@ -1,9 +1,8 @@
 -- What else is said holds of the meaning's program: each sentence is a law of the meaning's calls, and the trees that a list writes are the ones
 -- that the laws speak of, since it writes no other.
-use mathlib.Core.Path.{_≡_, refl, sym as inv, ap, _∙_}
+use mathlib.Core.Path.{_≡_}
 use mathlib.Core.Logic.{_↔_}
 use mathlib.Core.List.{List}
-use mathlib.Core.Option.{Option, none}
 use Prim.Native.Nat.{ℕ}
 use Rattle.theory.specs.Tree.{Term, Pattern}
 use Rattle.meaning.specs.File.{tableIn}

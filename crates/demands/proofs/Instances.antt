@@ -4,21 +4,26 @@ use mathlib.Core.Path.{_≡_, refl}
 use mathlib.Core.List.{List, [], _∷_}
 use mathlib.Core.Bool.{true, false}
 use mathlib.Core.Option.{none}
-use Prim.Native.Nat.{ℕ, _≤_, _<_}
+use Prim.Native.Nat.{ℕ, _+_, _*_, _≤_, _<_}
+use native.Mathlib.Nat.{not-suc-le-zero}
 use native.Mathlib.Omega.{arith}
 use lib.Dec.{lit<, lit≤}
-use lib.ListN.{length}
-use Rattle.theory.specs.Tree.{stands}
+use lib.ListN.{length, getD}
+use Rattle.theory.specs.Tree.{sym, ∅ₚ, stands}
 use Rattle.theory.specs.Table.{degree}
+use Rattle.theory.specs.Pairs.{pair, isPair}
 use Rattle.theory.specs.Read.{walk, several}
 use Rattle.theory.specs.Decode.{patternOf, termOf, parse, parseRow}
-use Rattle.meaning.specs.Limits.{variableCount}
+use Rattle.meaning.specs.Limits.{variableCount, spanWidth}
 use Rattle.meaning.specs.File.{symbolCount, pairCount, aritiesIn, pairsIn, tableIn, fileOf}
 use Rattle.meaning.specs.Refusals.{first, Given, row1-short, row1-offsets, row2, row3, row4, row5, row6, row7, row8, row8-output, row9, row10, row11, tableRows, SoundFile}
-use Rattle.meaning.specs.Packing.{packedCount}
-use Rattle.meaning.specs.Calls.{refused, gives, degreeRows, headingDegree, subtermRows, nearerRows, degrees, zeros, facesIn, inputRows, searchRows, matchRows, matched, writerRows, written, laterOutput}
+use Rattle.meaning.specs.Packing.{packedCount, packedSpans}
+use Rattle.meaning.specs.Calls.{refused, gives, degreeRows, headingDegree, subtermRows, nearerRows, degrees, zeros, facesIn, inputRows, searchRows, matchRows, matched, laterSpans, writerRows, written, laterOutput}
 use Rattle.meaning.specs.Demands.{WritesTerm, WritesPattern, Accepted}
 use Rattle.meaning.specs.Tables.{Bytes}
+use Rattle.meaning.specs.Matching.{InSpan}
+use Rattle.meaning.proofs.First.{first-given}
+use Rattle.meaning.proofs.Bits.{getD-zeros}
 use Rattle.meaning.proofs.RoundTrip.{round-trip}
 use Rattle.meaning.proofs.Examples.{T, arities, pairs, p, h}
 use Rattle.meaning.proofs.Wrong.{P, H, writes-P, writes-H}
@@ -28,9 +33,9 @@ abbrev asked : ℕ → Type 0
 asked cut = Accepted T p h cut (zeros 64) (zeros 20)
 
 -- Demand 1: a row that refuses, with none before it
-pub met1 : Given (tableRows []) 1 0
-unfolding tableRows row1-short
-met1 = record { index = 0; inside = lit< tt; holds = refl; none-before = λ k l. absurd (omega arith) }
+pub met1 : Given (tableRows []) 1 0 × Given (subtermRows [] []) 1 0 × Given (nearerRows [] [] [] []) 1 0
+unfolding subtermRows nearerRows tableRows row1-short row1-offsets row2 row3 row4 row6 row7 tableIn aritiesIn pairsIn walk several
+met1 = (first-given (tableRows []) 1 0 refl, first-given (subtermRows [] []) 1 0 refl, first-given (nearerRows [] [] [] []) 1 0 refl)
 
 -- Demand 2: two headings and a match that are not refused; at 701 there is no match, at 500 there is one
 pub met2 : (first (degreeRows T (1 ∷ 5 ∷ []) (4 ∷ 7 ∷ [])) ≡ none) × asked 500 × asked 701
@@ -58,19 +63,35 @@ pub met-tables : SoundFile T × (0 < symbolCount T) × (0 < pairCount T) × Byte
 unfolding tableRows row1-short row1-offsets row2 row3 row4 row8-output aritiesIn pairsIn written writerRows
 met-tables = (refl, lit< tt, lit< tt, bytes, lit≤ tt, refl)
 
--- Further, headings: two that have a degree, a subterm, and two candidates of which the second is nearer
-pub met-headings : (headingDegree T (1 ∷ 5 ∷ []) (4 ∷ 7 ∷ []) ≡ gives 700) × (first (subtermRows T h) ≡ none) × (1 < length h)
+-- .. and two symbols that are not listed, in a table of two symbols and no pairs
+abbrev pairless : List ℕ
+pairless = 2 ∷ 0 ∷ 0 ∷ 0 ∷ 10 ∷ 0 ∷ 12 ∷ 0 ∷ 12 ∷ 0 ∷ 0 ∷ 0 ∷ []
+
+pub met-unlisted : SoundFile pairless
+    × ((k l h d : ℕ) → k < pairCount pairless → getD (pairsIn pairless) k (pair 0 0 0) ≡ pair l h d → isPair l h 0 1 ≡ false)
+unfolding tableRows row1-short row1-offsets row2 row3 row4 aritiesIn pairsIn
+met-unlisted = (refl, λ k l h d m e. absurd (not-suc-le-zero m))
+
+-- Further, headings: two that have a degree, two of which one is longer, a subterm, and two candidates of which one is nearer
+pub met-headings : (headingDegree T (1 ∷ 5 ∷ []) (4 ∷ 7 ∷ []) ≡ gives 700) × (headingDegree T (1 ∷ 5 ∷ []) (5 ∷ []) ≡ gives 0) × (first (subtermRows T h) ≡ none) × (1 < length h)
     × (first (nearerRows T (5 ∷ []) (6 ∷ []) (7 ∷ [])) ≡ none)
     × (headingDegree T (5 ∷ []) (6 ∷ []) ≡ gives 500) × (headingDegree T (5 ∷ []) (7 ∷ []) ≡ gives 700)
 unfolding
     headingDegree degreeRows subtermRows nearerRows tableRows row1-short row1-offsets row2 row3 row4 row6 row7 tableIn aritiesIn pairsIn patternOf termOf parse parseRow walk several degree
-met-headings = (refl, refl, lit< tt, refl, refl, refl)
+met-headings = (refl, refl, refl, lit< tt, refl, refl, refl)
 
--- Further, the match: the trees that the two lists write, a variable that stands in the pattern and one that does not; a clash, at the pattern's
--- first node; and a pattern without variables
+-- Further, the match: the trees that the two lists write, a variable that stands in the pattern and one that does not; and a clash
 pub met-match : WritesPattern (tableIn T) p P × WritesTerm (tableIn T) h H × (stands 0 P ≡ true) × (stands 31 P ≡ false) × (31 < variableCount)
-    × (matched T (1 ∷ 32768 ∷ []) (2 ∷ 6 ∷ []) 501 (zeros 64) (zeros 8) ≡ refused 9 0) × (matched T (5 ∷ []) (7 ∷ []) 700 (zeros 64) (zeros 4) ≡ gives (degrees 700 700))
+    × (matched T (1 ∷ 32768 ∷ []) (2 ∷ 6 ∷ []) 501 (zeros 64) (zeros 8) ≡ refused 9 0)
 unfolding
     matched matchRows inputRows searchRows facesIn packedCount tableRows row1-short row1-offsets row2 row3 row4 row5 row6 row7 row8 row9 row10 row11 tableIn aritiesIn pairsIn
     patternOf termOf parse parseRow walk several
-met-match = (writes-P, writes-H, refl, refl, lit< tt, refl, refl)
+met-match = (writes-P, writes-H, refl, refl, lit< tt, refl)
+
+-- .. and a pattern without variables, of which no position is any variable's
+pub met-ground : ((v : ℕ) → stands v (sym 5 ∅ₚ) ≡ false) × (matched T (5 ∷ []) (7 ∷ []) 700 (zeros 64) (zeros 4) ≡ gives (degrees 700 700))
+    × ((v position : ℕ) → InSpan (laterSpans T (5 ∷ []) (7 ∷ []) 700 (zeros 64) (zeros 4)) v position → ⊥)
+unfolding
+    matched laterSpans matchRows inputRows searchRows facesIn packedCount packedSpans tableRows row1-short row1-offsets row2 row3 row4 row5 row6 row7 row8 row9 row10 row11 tableIn aritiesIn
+    pairsIn patternOf termOf parse parseRow walk several
+met-ground = ((λ v. refl), refl, λ v position i. omega (arith, i .1, getD-zeros 64 (spanWidth * v), getD-zeros 64 (spanWidth * v + 1)))

@@ -1,15 +1,21 @@
+-- What is proved of the statements in specs/, in an order in which it can be read. Each file begins with the reason why what it proves is so.
+--
+-- a program that keeps its promises meets every statement
 pub mod Meant
 pub mod Demand1
 pub mod Demands
 pub mod Paired
 pub mod Further
 pub mod Keeps
+-- every hypothesis can be met
 pub mod Instances
+-- wrong programs, and the statement at which each fails
 pub mod Wrong
 pub mod WrongRefusals
 pub mod WrongAbsent
 pub mod WrongPlaces
 pub mod WrongAllowed
+-- a program that meets the statements keeps its promises
 pub mod Settled
 pub mod SettledFiles
 pub mod SettledMatch

@@ -3,7 +3,7 @@
 use mathlib.Core.Path.{_≡_, refl, sym as inv, ap, ap₂, _∙_, subst}
 use mathlib.Core.Logic.{_⊎_, inl, inr}
 use mathlib.Core.List.{List}
-use mathlib.Core.Bool.{Bool, true, false, _&&_, _||_}
+use mathlib.Core.Bool.{Bool, true, false, _&&_}
 use mathlib.Core.Option.{Option, none, some as just, Option·some-ne-none, Option·some-injective}
 use Prim.Native.Nat.{ℕ, zero, suc, _≤_, _<_}
 use native.Mathlib.Nat.{not-suc-le-zero}
@@ -90,7 +90,7 @@ module _ (table : List ℕ) (f g : ℕ → ℕ → Answer ℕ) (sf : SymbolDegre
       go (yes l) (yes m) (no e) (inl r) = listed (r .0) (r .1) (getD (pairsIn table) (r .0) (pair 0 0 0)) refl (r .2)
       go (yes l) (yes m) (no e) (inr r) =
           let n : (k l h d : ℕ) → k < pairCount table → getD (pairsIn table) k (pair 0 0 0) ≡ pair l h d → isPair l h a b ≡ false
-              = λ k l h d b′ e′. ap (λ x. ofPair x a b) (inv e′) ∙ r k b′ in
+          = λ k l h d b′ e′. ap (λ x. ofPair x a b) (inv e′) ∙ r k b′ in
           sf .others a b e n ∙ inv (sg .others a b e n)
 
 -- ---- call by call

@@ -6,11 +6,11 @@ use mathlib.Core.Option.{Option, none, some as just}
 use Prim.Native.Nat.{ℕ, _≤_, _<_}
 use native.Mathlib.Decide.{decLt}
 use native.Mathlib.Omega.{arith}
-use lib.ListN.{length, getD, take, drop, take-append-drop}
+use lib.ListN.{length, take, drop, take-append-drop}
 use Rattle.theory.specs.Pairs.{Pair}
-use Rattle.meaning.specs.File.{symbolCount, pairCount, total, aritiesIn, pairsIn, fileOf}
+use Rattle.meaning.specs.File.{symbolCount, pairCount, total, fileOf}
 use Rattle.meaning.specs.Refusals.{Refusal, refusal, first, row14, tableRows}
-use Rattle.meaning.specs.Calls.{Answer, refused, gives, writerRows, backRows}
+use Rattle.meaning.specs.Calls.{Answer, gives, writerRows, backRows}
 use Rattle.meaning.specs.Demands.{Exactly}
 use Rattle.meaning.specs.Tables.{Wrote, Writes}
 use Rattle.meaning.proofs.Compose.{first-stays}

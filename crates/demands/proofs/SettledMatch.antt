@@ -2,7 +2,7 @@
 -- the counts of positions; the order of packing then fixes the starts, the sentence on sets every bit at a variable's position, and all other
 -- words are 0.
 use mathlib.Core.Path.{_≡_, refl, sym as inv, ap, ap₂, _∙_, fun-ext}
-use mathlib.Core.Logic.{_↔_, _⊎_, inl, inr}
+use mathlib.Core.Logic.{_⊎_, inl, inr}
 use mathlib.Core.List.{List}
 use mathlib.Core.Bool.{Bool, true, false, _&&_, false≢true}
 use mathlib.Core.Option.{Option, none, some as just}
@@ -29,7 +29,7 @@ use Rattle.meaning.specs.Matching.{standing, InSpan, Leaves}
 use Rattle.meaning.proofs.First.{append-none}
 use Rattle.meaning.proofs.Wrong.{aligned, found-given}
 use Rattle.demands.specs.Further.{MatchSays}
-use Rattle.demands.proofs.Settled.{by-refusal, by-none, same-answer, find}
+use Rattle.demands.proofs.Settled.{by-refusal, by-none, find}
 
 -- What is stated of one match.
 pub record Stated (table pattern heading : List ℕ) (cut : ℕ) (spans sets : List ℕ) (r : Matched) : Type 0 where
@@ -132,7 +132,7 @@ module _ (T : Table) (cut : ℕ) (p : Pattern) (h : Term) (pattern spans sets : 
           let w : setWords * (i / setWords) + x / wordBits ≡ i = omega arith in
           let b : x % wordBits ≡ j = omega arith in
           let q : bit (x % wordBits) (getD (r .sets) (setWords * (i / setWords) + x / wordBits) 0) ≡ bit (x % wordBits) (getD (s .sets) (setWords * (i / setWords) + x / wordBits) 0)
-              = same-holds (i / setWords) v l (in-span (i / setWords) v t) x (omega arith) in
+          = same-holds (i / setWords) v l (in-span (i / setWords) v t) x (omega arith) in
           rw (w, b) at q
 
       go : ((v : ℕ) × (v < variableCount) × (has (i / setWords) v ≡ true)) ⊎ ((v : ℕ) → v < variableCount → has (i / setWords) v ≡ false) → getD (r .sets) i 0 ≡ getD (s .sets) i 0

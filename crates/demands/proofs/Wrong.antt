@@ -8,7 +8,7 @@ use Rattle.theory.specs.Pairs.{Pair}
 use Rattle.theory.specs.Read.{walk, several}
 use Rattle.meaning.specs.File.{aritiesIn, pairsIn, tableIn}
 use Rattle.meaning.specs.Refusals.{row1-short, row1-offsets, row2, row3, row4, row5, row6, row7, row8, tableRows}
-use Rattle.meaning.specs.Calls.{Answer, refused, gives, degrees, Matched, zeros, inputRows, written}
+use Rattle.meaning.specs.Calls.{refused, gives, degrees, Matched, zeros, inputRows, written}
 use Rattle.meaning.specs.Demands.{Demand2 as MatchOf}
 use Rattle.meaning.proofs.Examples.{T, arities, pairs, p, h}
 use Rattle.meaning.proofs.Wrong.{always-nine, always-same, writes-nothing, first-only, invented, writer-writes-nothing}

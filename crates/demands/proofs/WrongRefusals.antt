@@ -1,18 +1,18 @@
 -- Wrong programs that fail at demand 1 alone. Demands 2 and 3 speak of calls that are not refused for their input or their room, and demand 2 takes
 -- 9 and 10 alike; so they allow a program that answers where it should refuse (`lax`), and one that muddles its refusals (`muddled`).
 use mathlib.Core.Path.{_≡_, refl, sym as inv, ap, _∙_, subst}
-use mathlib.Core.Logic.{_⊎_, inl, inr}
+use mathlib.Core.Logic.{inl, inr}
 use mathlib.Core.List.{List, []}
 use mathlib.Core.Option.{Option, none, some as just}
-use Prim.Native.Nat.{ℕ, _≤_}
+use Prim.Native.Nat.{ℕ}
 use native.Mathlib.Omega.{arith}
 use Rattle.theory.specs.Tree.{Term, Pattern}
 use Rattle.theory.specs.Table.{Table}
 use Rattle.theory.specs.Read.{walk, several}
 use Rattle.meaning.specs.File.{aritiesIn, pairsIn, tableIn}
 use Rattle.meaning.specs.Refusals.{Refusal, refusal, first, row1-short, row1-offsets, row2, row3, row4, row5, row6, row7, row8, tableRows}
-use Rattle.meaning.specs.Calls.{Answer, refused, gives, Degrees, degrees, Matched, degreeRows, headingDegree, inputRows, searchRows, matchRows, matchCall}
-use Rattle.meaning.specs.Demands.{NoMatch, Found, Decides, Narrower, TwoCuts, Demand2 as MatchOf, Demand2-degree as DegreeOf, Demand3 as CutsOf}
+use Rattle.meaning.specs.Calls.{Answer, refused, gives, Degrees, degrees, Matched, inputRows, searchRows, matchRows, matchCall}
+use Rattle.meaning.specs.Demands.{NoMatch, Found, Decides, Narrower, TwoCuts, Demand2 as MatchOf, Demand3 as CutsOf}
 use Rattle.meaning.proofs.First.{first-given}
 use Rattle.meaning.proofs.Compose.{first-stays, input-numbers}
 use Rattle.meaning.proofs.Wrong.{found-all}
@@ -20,7 +20,7 @@ use Rattle.demands.specs.Program.{Program}
 use Rattle.demands.specs.Demand1.{Demand1}
 use Rattle.demands.specs.Demand2.{Demand2}
 use Rattle.demands.specs.Demand3.{Demand3}
-use Rattle.demands.proofs.Meant.{meant, withMatch}
+use Rattle.demands.proofs.Meant.{withMatch}
 use Rattle.demands.proofs.Demands.{demand2, demand3}
 use Rattle.demands.proofs.Wrong.{not-both}
 

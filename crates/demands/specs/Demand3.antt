@@ -3,7 +3,7 @@
 -- the second cut; then its sets lie inside the first's, position by position, and its highest degree is the same. Each call may be lent buffers
 -- of its own.
 --
--- `CutsOf` says that of two results, over the trees that the lists write.
+-- `CutsOf` says that of two results, over the trees that the lists write (meaning/specs/Demands).
 use mathlib.Core.List.{List}
 use Prim.Native.Nat.{ℕ, _≤_}
 use Rattle.meaning.specs.Demands.{Accepted, Demand3 as CutsOf}

@@ -13,7 +13,6 @@ use Rattle.theory.specs.Tree.{Term, Pattern, stands}
 use Rattle.theory.specs.Table.{Table, Overₚ}
 use Rattle.theory.specs.Least.{All}
 use Rattle.theory.specs.Faces.{Face, faces}
-use Rattle.theory.specs.Match.{lowestOf, highestOf}
 use Rattle.theory.specs.Decode.{patternOf, termOf}
 use Rattle.theory.proofs.Decoding.{fine-over}
 use Rattle.theory.proofs.Matchers.{Clear, none-clear}
@@ -23,7 +22,7 @@ use Rattle.meaning.specs.Limits.{variableCount, spanWidth}
 use Rattle.meaning.specs.File.{tableIn}
 use Rattle.meaning.specs.Refusals.{first}
 use Rattle.meaning.specs.Packing.{firsts, order, countOf, startIn, among, spanOf, packedSpans}
-use Rattle.meaning.specs.Calls.{gives, Degrees, degrees, zeros, facesIn, inputRows, searchRows, matchRows, matched, laterSpans, matchCall}
+use Rattle.meaning.specs.Calls.{gives, Degrees, zeros, inputRows, searchRows, matchRows, matched, laterSpans, matchCall}
 use Rattle.meaning.specs.Buffers.{firstPosition, positionCount}
 use Rattle.meaning.specs.Demands.{Accepted}
 use Rattle.meaning.specs.Matching.{standing, PackedInOrder}

@@ -8,7 +8,7 @@ use native.Mathlib.Nat.{not-suc-le-zero}
 use native.Mathlib.Decide.{decLt}
 use native.Mathlib.Omega.{arith}
 use lib.Dec.{eqb}
-use borrow.Author.Tests.{eqb-true, eqb-false, eq-eqb}
+use borrow.Author.Tests.{eqb-true, eq-eqb}
 use Rattle.theory.specs.Tree.{Term, node, Terms, ∅, _▹_, Pattern, var, sym, Patterns, ∅ₚ, _▸_, count, countₚ, stands, standsIn}
 use Rattle.theory.specs.Table.{Table, Lawful, Over, Overs, Overₚ, Oversₚ}
 use Rattle.theory.specs.Least.{All}
