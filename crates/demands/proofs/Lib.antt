@@ -7,6 +7,8 @@ pub mod Demands
 pub mod Paired
 pub mod Further
 pub mod Keeps
+pub mod Public
+pub mod Unique
 -- every hypothesis can be met
 pub mod Instances
 -- wrong programs, and the statement at which each fails

@@ -1,0 +1,48 @@
+-- The demands of what users run: results that the public promises allow are a program that keeps its promises, so that every demand holds of them.
+use mathlib.Core.Path.{_≡_, refl, ap₂, _∙_}
+use mathlib.Core.List.{List}
+use Prim.Native.Nat.{ℕ}
+use Rattle.theory.specs.Pairs.{Pair}
+use Rattle.meaning.specs.File.{pairsOf, numbersOf}
+use Rattle.meaning.specs.Calls.{Matched, matchCall}
+use Rattle.meaning.specs.Tables.{Wrote, writeCall}
+use Rattle.writer.proofs.Numbers.{pairs-of-numbers}
+use Rattle.matching.specs.Outcomes.{resultOf}
+use Rattle.demands.specs.Program.{Program, Promise}
+use Rattle.demands.specs.Public.{Calls, Kept, programOf}
+use Rattle.demands.specs.Demand1.{Demand1}
+use Rattle.demands.specs.Demand2.{Demand2}
+use Rattle.demands.specs.Demand3.{Demand3}
+use Rattle.demands.specs.Further.{Further}
+use Rattle.demands.proofs.Keeps.{keeps}
+
+module _ (C : Calls) (k : Kept C) where
+  matches : (table pattern heading : List ℕ) (cut : ℕ) (spans sets : List ℕ)
+      → programOf C .match table pattern heading cut spans sets ≡ matchCall table pattern heading cut spans sets
+  matches table pattern heading cut spans sets =
+      let p = k .match table pattern heading cut spans sets in
+      λ i. record { answer = p .answers i; spans = p .spans-later i; sets = p .sets-later i }
+
+  writes : (arities : List ℕ) (pairs : List Pair) (output : List ℕ) → programOf C .writeTable arities pairs output ≡ writeCall arities pairs output
+  writes arities pairs output =
+      let p = k .write-table arities (numbersOf pairs) output in
+      let e : pairsOf (numbersOf pairs) ≡ pairs = pairs-of-numbers pairs in
+      ap₂ (λ a l. record { answer = a; output = l }) (p .answers) (p .leaves) ∙ rw e
+
+  promise : Promise (programOf C)
+  promise =
+      record {
+        is-table = k .is-table;
+        symbol-degree = k .symbol-degree;
+        heading-degree = k .heading-degree;
+        subterm = λ table term i. refl;
+        nearer = λ table heading one two. refl;
+        match = matches;
+        write-table = writes;
+        arity-of = k .arity-of;
+        pair-of = k .pair-of;
+      }
+
+  -- THEOREM: whatever results the public promises allow, the demands hold of them
+  pub users-have : Demand1 (programOf C) × Demand2 (programOf C) × Demand3 (programOf C) × Further (programOf C)
+  users-have = keeps (programOf C) promise

@@ -1,0 +1,21 @@
+-- The promises are equations with the meaning, and what an answer says names it; each call's own proof stands in the crate `headings`.
+use Rattle.headings.proofs.OneTable.{one-table, one-symbol-degree, one-arity, one-pair-at}
+use Rattle.headings.proofs.OneTerm.{one-degree, one-subterm, one-nearer}
+use Rattle.headings.proofs.OneMatch.{one-match}
+use Rattle.headings.proofs.OneWriting.{one-writing}
+use Rattle.demands.specs.Unique.{Unique}
+
+-- THEOREM
+pub unique : Unique
+unique =
+    record {
+      is-table = one-table;
+      symbol-degree = one-symbol-degree;
+      heading-degree = one-degree;
+      subterm = λ table term index r s p q. let e = one-subterm table term index r s p q in (e .holds, e .lies);
+      nearer = λ table heading one two r s p q. let e = one-nearer table heading one two r s p q in (e .holds, e .lies);
+      match = one-match;
+      write-table = one-writing;
+      arity-of = one-arity;
+      pair-of = one-pair-at;
+    }

@@ -1,0 +1,73 @@
+-- The public calls as users run them: any results, and any later contents of lent memory, that the calls' promises allow.
+use mathlib.Core.List.{List}
+use Prim.Native.Nat.{ℕ}
+use Rattle.theory.specs.Pairs.{Pair}
+use Rattle.meaning.specs.File.{numbersOf}
+use Rattle.meaning.specs.Calls.{subterm, nearer}
+use Rattle.writer.specs.Said.{said}
+use Rattle.writer.specs.declared.Writing.{Writing}
+use Rattle.matching.specs.Outcomes.{resultOf}
+use Rattle.matching.specs.declared.search.Outcome.{Outcome}
+use Rattle.headings.specs.declared.tables.TableAnswer.{TableAnswer}
+use Rattle.headings.specs.declared.tables.DegreeAnswer.{DegreeAnswer}
+use Rattle.headings.specs.declared.tables.ArityAnswer.{ArityAnswer}
+use Rattle.headings.specs.declared.tables.PairAnswer.{PairAnswer}
+use Rattle.headings.specs.Tables.{saidTable, IsTable, saidDegree, SymbolDegree, saidArity, ArityOf, saidPair, PairAt}
+use Rattle.headings.specs.Terms.{Nodes, DegreeOfHeadings, Subterm, Nearer}
+use Rattle.headings.specs.Matching.{MatchHeading}
+use Rattle.headings.specs.Writing.{WriteTable}
+use Rattle.demands.specs.Program.{Program}
+
+-- What a match, a writing returned and left.
+pub record Matching : Type 0 where
+  pub outcome : Outcome
+  pub spans : List ℕ
+  pub sets : List ℕ
+
+pub record Written : Type 0 where
+  pub writing : Writing
+  pub output : List ℕ
+
+-- What each call returned, for everything that was lent to it. A subterm and the nearer are handed back as references.
+pub record Calls : Type 0 where
+  pub isTable : List ℕ → TableAnswer
+  pub symbolDegree : List ℕ → ℕ → ℕ → DegreeAnswer
+  pub headingDegree : List ℕ → List ℕ → List ℕ → DegreeAnswer
+  pub subterm : List ℕ → Nodes → ℕ → Nodes
+  pub nearer : List ℕ → List ℕ → Nodes → Nodes → Nodes
+  pub match : (table pattern heading : List ℕ) (cut : ℕ) (spans sets : List ℕ) → Matching
+  pub writeTable : (arities numbers output : List ℕ) → Written
+  pub arityOf : List ℕ → ℕ → ArityAnswer
+  pub pairOf : List ℕ → ℕ → PairAnswer
+
+-- Each result is one that the call's promise allows.
+pub record Kept (C : Calls) : Type 0 where
+  pub is-table : (table : List ℕ) → IsTable table (C .isTable table)
+  pub symbol-degree : (table : List ℕ) (a b : ℕ) → SymbolDegree table a b (C .symbolDegree table a b)
+  pub heading-degree : (table one two : List ℕ) → DegreeOfHeadings table one two (C .headingDegree table one two)
+  pub subterm : (table : List ℕ) (term : Nodes) (index : ℕ) → Subterm table term index (C .subterm table term index)
+  pub nearer : (table heading : List ℕ) (one two : Nodes) → Nearer table heading one two (C .nearer table heading one two)
+  pub match : (table pattern heading : List ℕ) (cut : ℕ) (spans sets : List ℕ)
+      → let m = C .match table pattern heading cut spans sets in MatchHeading table pattern heading cut spans sets (m .outcome) (m .spans) (m .sets)
+  pub write-table : (arities numbers output : List ℕ)
+      → let w = C .writeTable arities numbers output in WriteTable arities numbers output (w .writing) (w .output)
+  pub arity-of : (table : List ℕ) (symbol : ℕ) → ArityOf table symbol (C .arityOf table symbol)
+  pub pair-of : (table : List ℕ) (index : ℕ) → PairAt table index (C .pairOf table index)
+
+-- What the calls say, as a program: numbers, places, values and buffers. (Which part of a list, and which of two candidates, is handed back is what the
+-- promises of the subterm and the nearer name; that the reference is that one is in them.)
+abbrev pub programOf : Calls → Program
+programOf C =
+    record {
+      isTable = λ table. saidTable (C .isTable table);
+      symbolDegree = λ table a b. saidDegree (C .symbolDegree table a b);
+      headingDegree = λ table one two. saidDegree (C .headingDegree table one two);
+      subterm = subterm;
+      nearer = nearer;
+      match = λ table pattern heading cut spans sets.
+          let m = C .match table pattern heading cut spans sets in resultOf (m .outcome) (m .spans) (m .sets);
+      writeTable = λ arities pairs output.
+          let w = C .writeTable arities (numbersOf pairs) output in record { answer = said (w .writing); output = w .output };
+      arityOf = λ table symbol. saidArity (C .arityOf table symbol);
+      pairOf = λ table index. saidPair (C .pairOf table index);
+    }
