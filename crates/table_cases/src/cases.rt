@@ -8,74 +8,8 @@ use headings::tables::pair_of;
 use headings::tables::symbol_degree;
 
 // Table T, example 1 of the published definition in numbers.
-pub const T: [u8; 66] = [
-    8,
-    0,
-    8,
-    0,
-    10,
-    0,
-    18,
-    0,
-    66,
-    0,
-    2,
-    1,
-    1,
-    1,
-    1,
-    0,
-    0,
-    0,
-    1,
-    0,
-    2,
-    0,
-    244,
-    1,
-    1,
-    0,
-    3,
-    0,
-    88,
-    2,
-    1,
-    0,
-    4,
-    0,
-    188,
-    2,
-    2,
-    0,
-    3,
-    0,
-    88,
-    2,
-    2,
-    0,
-    4,
-    0,
-    32,
-    3,
-    5,
-    0,
-    6,
-    0,
-    244,
-    1,
-    5,
-    0,
-    7,
-    0,
-    188,
-    2,
-    6,
-    0,
-    7,
-    0,
-    32,
-    3,
-];
+pub const T: [u8; 66] =
+    *b"\x08\x00\x08\x00\x0a\x00\x12\x00\x42\x00\x02\x01\x01\x01\x01\x00\x00\x00\x01\x00\x02\x00\xf4\x01\x01\x00\x03\x00\x58\x02\x01\x00\x04\x00\xbc\x02\x02\x00\x03\x00\x58\x02\x02\x00\x04\x00\x20\x03\x05\x00\x06\x00\xf4\x01\x05\x00\x07\x00\xbc\x02\x06\x00\x07\x00\x20\x03";
 
 // The first n bytes of a list.
 fn cut_at(t: &[u8], n: usize)
@@ -93,119 +27,63 @@ pub fn cut_at_every_length() {
 }
 
 // T with two bytes changed: index, byte, index, byte.
-const FAULTS: [u8; 112] = [
-    0,
-    0,
-    0,
-    0, // no symbols
-    1,
-    1,
-    1,
-    1, // 264 symbols
-    0,
-    0,
-    1,
-    1, // 256 symbols: then the offsets are wrong
-    3,
-    32,
-    3,
-    32, // 8200 pairs
-    2,
-    0,
-    3,
-    32, // 8192 pairs: then the total is wrong
-    4,
-    11,
-    4,
-    11, // arities at 11
-    6,
-    19,
-    6,
-    19, // pairs at 19
-    8,
-    67,
-    8,
-    67, // total 67
-    0,
-    0,
-    4,
-    11, // no symbols, and arities at 11
-    10,
-    8,
-    10,
-    8, // arity 8 of symbol 0
-    10,
-    9,
-    10,
-    9, // arity 9 of symbol 0
-    12,
-    9,
-    12,
-    9, // arity 9 of symbol 2
-    17,
-    255,
-    17,
-    255, // arity 255 of symbol 7
-    13,
-    9,
-    17,
-    9, // arity 9 of symbols 3 and 7
-    17,
-    9,
-    18,
-    3, // arity 9 of symbol 7, and pair 0 is 3 2
-    30,
-    4,
-    30,
-    4, // pair 2 is 4 4
-    60,
-    8,
-    60,
-    8, // pair 7 is 8 7
-    62,
-    8,
-    62,
-    8, // pair 7 is 6 8
-    63,
-    1,
-    63,
-    1, // pair 7 is 6 263
-    20,
-    5,
-    20,
-    5, // pair 0 is 1 5, of unequal arities
-    52,
-    0,
-    53,
-    0, // degree 0 of pair 5
-    52,
-    1,
-    53,
-    0, // degree 1
-    52,
-    232,
-    53,
-    3, // degree 1000
-    52,
-    233,
-    53,
-    3, // degree 1001
-    26,
-    2,
-    26,
-    2, // pair 1 is pair 0 again
-    26,
-    4,
-    32,
-    3, // pairs 1 and 2 exchanged
-    42,
-    1,
-    42,
-    1, // pair 4 is 1 4
-    36,
-    3,
-    54,
-    7, // pairs 3 and 6 are 3 3 and 7 7
+const FAULTS: [[u8; 4]; 28] = [
+    // no symbols
+    [0, 0, 0, 0],
+    // 264 symbols
+    [1, 1, 1, 1],
+    // 256 symbols: then the offsets are wrong
+    [0, 0, 1, 1],
+    // 8200 pairs
+    [3, 32, 3, 32],
+    // 8192 pairs: then the total is wrong
+    [2, 0, 3, 32],
+    // arities at 11
+    [4, 11, 4, 11],
+    // pairs at 19
+    [6, 19, 6, 19],
+    // total 67
+    [8, 67, 8, 67],
+    // no symbols, and arities at 11
+    [0, 0, 4, 11],
+    // arity 8 of symbol 0
+    [10, 8, 10, 8],
+    // arity 9 of symbol 0
+    [10, 9, 10, 9],
+    // arity 9 of symbol 2
+    [12, 9, 12, 9],
+    // arity 255 of symbol 7
+    [17, 255, 17, 255],
+    // arity 9 of symbols 3 and 7
+    [13, 9, 17, 9],
+    // arity 9 of symbol 7, and pair 0 is 3 2
+    [17, 9, 18, 3],
+    // pair 2 is 4 4
+    [30, 4, 30, 4],
+    // pair 7 is 8 7
+    [60, 8, 60, 8],
+    // pair 7 is 6 8
+    [62, 8, 62, 8],
+    // pair 7 is 6 263
+    [63, 1, 63, 1],
+    // pair 0 is 1 5, of unequal arities
+    [20, 5, 20, 5],
+    // degree 0 of pair 5
+    [52, 0, 53, 0],
+    // degree 1
+    [52, 1, 53, 0],
+    // degree 1000
+    [52, 232, 53, 3],
+    // degree 1001
+    [52, 233, 53, 3],
+    // pair 1 is pair 0 again
+    [26, 2, 26, 2],
+    // pairs 1 and 2 exchanged
+    [26, 4, 32, 3],
+    // pair 4 is 1 4
+    [42, 1, 42, 1],
+    // pairs 3 and 6 are 3 3 and 7 7
+    [36, 3, 54, 7],
 ];
 
 fn put(bytes: &mut [u8], at: u8, byte: u8) {
@@ -219,10 +97,10 @@ fn fault(row: usize)
     requires { ⌜ row < 28 ⌝ }
 {
     let faults = FAULTS;
-    let at = 4 * row;
+    let change = faults[row];
     let mut t = T;
-    put(&mut t, faults[at], faults[at + 1]);
-    put(&mut t, faults[at + 2], faults[at + 3]);
+    put(&mut t, change[0], change[1]);
+    put(&mut t, change[2], change[3]);
     say::numbered(b"fault ", row);
     say::table(is_table(&t));
 }
@@ -254,25 +132,16 @@ pub fn short_files() {
 }
 
 // Two symbol numbers; 8 and above are none of T's.
-const SYMBOLS: [u16; 18] = [
-    5,
-    7,
-    7,
-    5,
-    5,
-    5,
-    0,
-    1,
-    5,
-    6,
-    8,
-    8,
-    7,
-    8,
-    32768,
-    32768,
-    65535,
-    0,
+const SYMBOLS: [[u16; 2]; 9] = [
+    [5, 7],
+    [7, 5],
+    [5, 5],
+    [0, 1],
+    [5, 6],
+    [8, 8],
+    [7, 8],
+    [32768, 32768],
+    [65535, 0],
 ];
 
 fn degree(row: usize)
@@ -281,7 +150,8 @@ fn degree(row: usize)
     let t = T;
     let symbols = SYMBOLS;
     say::numbered(b"degree ", row);
-    say::degree(symbol_degree(&t, symbols[2 * row], symbols[2 * row + 1]));
+    let asked = symbols[row];
+    say::degree(symbol_degree(&t, asked[0], asked[1]));
 }
 
 pub fn every_degree() {
