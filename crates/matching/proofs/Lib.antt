@@ -1,9 +1,4 @@
 -- Laws that the proofs of functions cite, here and in the crates above.
-pub mod Passing
-pub mod Faced
-pub mod Gathering
-pub mod Standing
-pub mod Positions
 pub mod Notes
 pub mod Spans
 pub mod Searching

@@ -20,15 +20,15 @@ use Rattle.meaning.specs.Packing.{countOf}
 use Rattle.meaning.specs.Calls.{facesIn}
 use Rattle.meaning.specs.Search.{symbolWorth}
 use Rattle.meaning.specs.Over.{over}
-use Rattle.matching.specs.Faced.{ClearBy}
-use Rattle.matching.specs.Facing.{Within}
-use Rattle.matching.specs.Gathering.{GatheredBy}
-use Rattle.matching.specs.Variable.{PackedTo}
+use Rattle.facing.specs.Faced.{ClearBy}
+use Rattle.positions.specs.Facing.{Within}
+use Rattle.facing.specs.Gathering.{GatheredBy}
+use Rattle.positions.specs.Variable.{PackedTo}
 use Rattle.matching.specs.Pack.{Packable, Room, PackedNext}
 use Rattle.matching.specs.declared.pack.Search.{Search}
-use Rattle.matching.proofs.Faced.{faced-in, gathered-in}
-use Rattle.matching.proofs.Passing.{readable, few-nodes}
-use Rattle.matching.proofs.Positions.{positions-first}
+use Rattle.facing.proofs.Faced.{faced-in, gathered-in}
+use Rattle.facing.proofs.Passing.{readable, few-nodes}
+use Rattle.positions.proofs.Positions.{positions-first}
 
 -- ---- the notes of one variable
 

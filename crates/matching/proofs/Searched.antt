@@ -36,10 +36,10 @@ use Rattle.meaning.proofs.Lengths.{rooms8, packed-words}
 use Rattle.meaning.proofs.Over.{over-front}
 use Rattle.refusal.specs.declared.Refusal.the-variants.{NoForm, Overfull}
 use Rattle.matching.specs.declared.pack.Search.{Search}
-use Rattle.matching.specs.Faced.{ClearBy}
+use Rattle.facing.specs.Faced.{ClearBy}
 use Rattle.matching.specs.Pack.{Packable, PackedAll}
 use Rattle.matching.specs.Outcomes.{emptied, kept, outcomeOf}
-use Rattle.matching.proofs.Passing.{readable}
+use Rattle.facing.proofs.Passing.{readable}
 
 -- LAW: two results are the same where their parts are
 pub same-matched : {a b : Answer Degrees} {s t u v : List ℕ} → a ≡ b → s ≡ t → u ≡ v

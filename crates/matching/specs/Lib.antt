@@ -1,7 +1,3 @@
 -- Names that contracts use. The match itself and what it answers stand in the crates theory and meaning.
-pub mod Faced
-pub mod Gathering
-pub mod Facing
-pub mod Variable
 pub mod Pack
 pub mod Outcomes

@@ -1,8 +1,4 @@
-// The match of a pattern and a heading at a cut.
+// The match of a pattern and a heading at a cut: all variables packed, and what comes of them.
 pub mod clear;
-pub mod faces;
-pub mod gather;
 pub mod pack;
-pub mod position;
 pub mod search;
-pub mod variable;

@@ -5,15 +5,15 @@ ghost use lib.ListN.{length};
 ghost use Rattle.meaning.specs.Limits.{setWords};
 ghost use Rattle.meaning.specs.Calls.{matchCall};
 ghost use Rattle.meaning.specs.Demands.{Accepted};
-ghost use Rattle.matching.specs.Faced.{ClearBy};
+ghost use Rattle.facing.specs.Faced.{ClearBy};
 ghost use Rattle.matching.specs.Pack.{Room};
 ghost use Rattle.matching.specs.Outcomes.{resultOf, emptied, outcomeOf};
 use crate::clear::clear_numbers;
 use crate::clear::clear_words;
-use crate::faces::Facing;
-use crate::faces::face;
 use crate::pack::Search;
 use crate::pack::pack;
+use facing::faces::Facing;
+use facing::faces::face;
 use refusal::Refusal;
 use sets::SymbolSet;
 

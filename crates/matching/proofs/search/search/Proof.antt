@@ -7,7 +7,7 @@ use denote.Ref.{now}
 use Rattle.theory.specs.Match.{clash}
 use Rattle.meaning.specs.File.{tableIn}
 use Rattle.meaning.specs.Calls.{facesIn}
-use Rattle.matching.proofs.Faced.{clash-told, clear-told}
+use Rattle.facing.proofs.Faced.{clash-told, clear-told}
 use Rattle.matching.proofs.Searched.{Fit, fit, clash-inside, clash-ends}
 use Rattle.matching.proofs.search.search.Statement.{statement}
 use Rattle.matching.proofs.search.search.Tie as tie

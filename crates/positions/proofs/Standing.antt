@@ -1,0 +1,147 @@
+-- What stands at one position of a variable: how the set there, the least degree that a symbol shares there, and the lowest and the
+-- highest of these come about as one more facing subterm, or one more symbol, is looked at.
+use mathlib.Core.Path.{_≡_, refl, sym as inv, ap, _∙_}
+use mathlib.Core.List.{List, [], _∷_, _++_}
+use mathlib.Core.Bool.{Bool, true, false, _&&_, and-false, cond}
+use Prim.Native.Nat.{ℕ, zero, suc, _+_, _≤_, _<_, min, max}
+use native.Mathlib.Numerals.{add-one}
+use native.Mathlib.Omega.{arith}
+use lib.Dec.{ltb, leb}
+use lib.ListN.{getD, take}
+use lib.Seq.{take-suc, take-all, length-take-le, getD-take}
+use borrow.Author.Tests.{lt-leb}
+use Rattle.theory.specs.Tree.{Term, node, ∅}
+use Rattle.theory.specs.Table.{Table, Lawful}
+use Rattle.theory.specs.Match.{at, shared, inSet}
+use Rattle.theory.specs.Stands.{StandsAt, Gathered}
+use Rattle.theory.proofs.Lemmas.{most, fewest}
+use Rattle.theory.proofs.Growing.{shared-more, set-more}
+use Rattle.theory.proofs.Gathered.{at-node, at-past}
+use Rattle.meaning.specs.Buffers.{member}
+use Rattle.meaning.proofs.Rated.{lowest-top}
+use Rattle.positions.specs.Facing.{DegreeAt, NearAt, SharedAt, SetAt, DegreesAt}
+
+-- ---- one subterm
+
+module _ (T : Table) (list : List ℕ) (start size k : ℕ) where
+  -- LAW: at a position of the subterm stands that node of the list
+  pub at-inside : (t : Term) → StandsAt list start size t → k < size → at T t k ≡ getD list (start + k) 0
+  at-inside t w l = at-node T t list start (rw (w .nodes) at (w .is)) k (omega (arith, w .nodes))
+
+  -- LAW: past its end there is no symbol
+  pub at-outside : (t : Term) → StandsAt list start size t → size ≤ k → at T t k ≡ T .size
+  at-outside t w l = at-past T t k (omega (arith, w .nodes))
+
+  -- LAW: a symbol's degree there is that with the node of the list, and near are the symbols near to this node
+  pub degree-inside : (s d : ℕ) → k < size → d ≡ T .deg s (getD list (start + k) 0) → DegreeAt T list start size k s d
+  degree-inside s d l e t w = e ∙ ap (T .deg s) (inv (at-inside t w l))
+
+  pub near-inside : (cut : ℕ) (words : List ℕ) → k < size
+      → ((s : ℕ) → member words s ≡ (ltb s (T .size) && leb cut (T .deg s (getD list (start + k) 0)))) → NearAt T list start size k cut words
+  near-inside cut words l near t w s = near s ∙ ap (λ (d : ℕ). ltb s (T .size) && leb cut d) (degree-inside s _ l refl t w)
+
+module _ {T : Table} (L : Lawful T) (list : List ℕ) (start size k : ℕ) where
+  -- what is no symbol has degree 0 with everything
+  no-degree : (s : ℕ) → T .deg s (T .size) ≡ 0
+  no-degree s = go (T .deg s (T .size)) refl
+    where
+      go : (d : ℕ) → T .deg s (T .size) ≡ d → d ≡ 0
+      go zero e = refl
+      go (suc d) e = absurd (omega (arith, L .inside s (T .size) (omega arith) .1))
+
+  -- LAW: past the subterm's end a symbol's degree is 0, and none is near
+  pub degree-past : (s : ℕ) → size ≤ k → DegreeAt T list start size k s 0
+  degree-past s l t w = inv (ap (T .deg s) (at-outside T list start size k t w l) ∙ no-degree s)
+
+  pub near-past : (cut : ℕ) (words : List ℕ) → 0 < cut → size ≤ k → ((s : ℕ) → member words s ≡ false) → NearAt T list start size k cut words
+  near-past cut words pos l empty t w s =
+      empty s
+      ∙ inv (and-false (ltb s (T .size)))
+      ∙ ap (λ (b : Bool). ltb s (T .size) && b) (inv (lt-leb cut 0 pos) ∙ ap (leb cut) (degree-past s l t w))
+
+-- ---- one subterm more
+
+module _ {list starts sizes : List ℕ} (n : ℕ) {ts : List Term} (g : Gathered list starts sizes (n + 1) ts) where
+  -- LAW: the last of the terms stands where the list says, the terms before it are gathered too, and these with the last are all
+  pub last-stands : StandsAt list (getD starts n 0) (getD sizes n 0) (getD ts n (node 0 ∅))
+  last-stands = g .each n (omega arith)
+
+  pub before-last : Gathered list starts sizes n (take n ts)
+  before-last =
+      record {
+        count = length-take-le n ts (omega (arith, g .count));
+        each = λ o l. rw (getD-take n ts o (node 0 ∅) l) (g .each o (omega arith));
+      }
+
+  pub last-apart : ts ≡ take n ts ++ (getD ts n (node 0 ∅) ∷ [])
+  last-apart = inv (take-all (suc n) ts (omega (arith, g .count, add-one n))) ∙ take-suc ts n (node 0 ∅) (omega (arith, g .count))
+
+-- LAW: with no subterm a symbol shares all
+pub shared-none : (T : Table) (list starts sizes : List ℕ) (k s : ℕ) → SharedAt T list starts sizes k s 0 1000
+shared-none T list starts sizes k s [] g = refl
+shared-none T list starts sizes k s (t ∷ ts) g = absurd (omega (arith, g .count))
+
+module _ {T : Table} (L : Lawful T) (list starts sizes : List ℕ) (k : ℕ) where
+  -- LAW: one subterm more, with which the symbol has degree d
+  pub shared-next : (s n r d m : ℕ) → DegreeAt T list (getD starts n 0) (getD sizes n 0) k s d → m ≡ min r d
+      → SharedAt T list starts sizes k s n r → SharedAt T list starts sizes k s (n + 1) m
+  shared-next s n r d m one e h ts g =
+      let t = getD ts n (node 0 ∅) in
+      let before = h (take n ts) (before-last n g) in
+      let last = one t (last-stands n g) in
+      let all = ap (λ (ts : List Term). shared T ts k s) (last-apart n g) ∙ shared-more T L (take n ts) t k s in
+      omega arith
+
+  -- LAW: the set of the first subterm alone
+  pub set-first : (cut : ℕ) (words : List ℕ) → NearAt T list (getD starts 0 0) (getD sizes 0 0) k cut words → SetAt T list starts sizes k cut 1 words
+  set-first cut words near ts g s =
+      let t = getD ts 0 (node 0 ∅) in
+      let top : T .deg s (at T t k) ≡ min (T .deg s (at T t k)) 1000 = omega (arith, L .top s (at T t k)) in
+      near t (last-stands 0 g) s
+      ∙ ap (λ (d : ℕ). ltb s (T .size) && leb cut d) top
+      ∙ inv (ap (λ (ts : List Term). inSet T cut ts k s) (last-apart 0 g))
+
+  -- LAW: one subterm more, near to whose node are the other words
+  pub set-next : (cut n : ℕ) (words other both : List ℕ) → NearAt T list (getD starts n 0) (getD sizes n 0) k cut other
+      → ((s : ℕ) → member both s ≡ (member words s && member other s)) → SetAt T list starts sizes k cut n words
+      → SetAt T list starts sizes k cut (n + 1) both
+  set-next cut n words other both near meet h ts g s =
+      let t = getD ts n (node 0 ∅) in
+      let before = h (take n ts) (before-last n g) s in
+      let last = near t (last-stands n g) s in
+      meet s
+      ∙ rw (before, last) (once (ltb s (T .size)) (leb cut (shared T (take n ts) k s)) (leb cut (T .deg s (at T t k))))
+      ∙ inv (set-more T L cut (take n ts) t k s)
+      ∙ inv (ap (λ (ts : List Term). inSet T cut ts k s) (last-apart n g))
+    where
+      once : (a b c : Bool) → ((a && b) && (a && c)) ≡ ((a && b) && c)
+      once true b c = refl
+      once false b c = refl
+
+-- ---- one symbol more
+
+module _ (T : Table) (list starts sizes : List ℕ) (k n : ℕ) (words : List ℕ) where
+  -- `low` and `high` are the least and the most that a symbol of the words, below m, shares at position k with the first n subterms
+  abbrev pub RatedBelow : ℕ → ℕ → ℕ → Type 0
+  RatedBelow m low high =
+      (ts : List Term) → Gathered list starts sizes n ts
+      → (low ≡ fewest (member words) (shared T ts k) m) × (high ≡ most (member words) (shared T ts k) m)
+
+  -- LAW: the next symbol is one of the words', and shares d
+  pub rated-in : (m d low high low′ high′ : ℕ) → member words m ≡ true → SharedAt T list starts sizes k m n d → low′ ≡ min low d
+      → high′ ≡ max high d → RatedBelow m low high → RatedBelow (m + 1) low′ high′
+  rated-in m d low high low′ high′ e one f f′ h ts g =
+      let before = h ts g in
+      let last = one ts g in
+      rw (add-one, e) (omega arith, omega arith)
+
+  -- LAW: the next symbol is none of the words'
+  pub rated-out : (m low high low′ high′ : ℕ) → member words m ≡ false → low′ ≡ low → high′ ≡ high → RatedBelow m low high
+      → RatedBelow (m + 1) low′ high′
+  rated-out m low high low′ high′ e f f′ h ts g =
+      let before = h ts g in
+      rw (add-one, e) (omega (arith, lowest-top m (λ s. cond (member words s) (shared T ts k s) 1000)), omega arith)
+
+  -- LAW: a set has no symbol but the table's
+  pub rated-all : (low high : ℕ) → RatedBelow (T .size) low high → DegreesAt T list starts sizes k words n low high
+  rated-all low high h ts cut g is = simp is at (h ts g)

@@ -1,0 +1,123 @@
+// What stands at one position of a variable, over all subterms that face it.
+//
+// The o-th of them begins at index `starts[o]` of the heading and has `sizes[o]` nodes.
+ghost use mathlib.Core.Path.{_≡_};
+ghost use Prim.Native.Nat.{_+_, _<_, _≤_, min, max};
+ghost use lib.ListN.{length};
+ghost use Rattle.meaning.specs.File.{tableIn};
+ghost use Rattle.meaning.specs.Refusals.{SoundFile};
+ghost use Rattle.positions.specs.Facing.{Within, DegreeAt, NearAt, SharedAt, SetAt, DegreesAt};
+use sets::SymbolSet;
+use table::degree::degree;
+use table::near::near;
+use table::read::symbol_count;
+
+pub fn lesser(a: u16, b: u16) -> u16
+    ensures { λ r. ⌜ r ≡ min a b ⌝ }
+{
+    if a < b { a } else { b }
+}
+
+pub fn greater(a: u16, b: u16) -> u16
+    ensures { λ r. ⌜ r ≡ max a b ⌝ }
+{
+    if a < b { b } else { a }
+}
+
+// The symbols near enough to what stands at position k of one subterm.
+fn near_at(table: &[u8], heading: &[u16], start: u16, size: u16, k: usize, cut: u16) -> SymbolSet
+    requires { ⌜ SoundFile (now table) × (start + size ≤ length (now heading)) × (0 < cut) ⌝ }
+    ensures { λ r. ⌜ NearAt (tableIn (now (table .entry))) (now (heading .entry)) start size k cut (r .words) ⌝ }
+{
+    // past its end there is no symbol
+    if k >= size as usize {
+        return SymbolSet::empty();
+    }
+    near(table, heading[start as usize + k], cut)
+}
+
+// The degree of a symbol with what stands at position k of one subterm.
+fn degree_at(table: &[u8], heading: &[u16], start: u16, size: u16, k: usize, symbol: u16) -> u16
+    requires { ⌜ SoundFile (now table) × (start + size ≤ length (now heading)) ⌝ }
+    ensures { λ r. ⌜ DegreeAt (tableIn (now (table .entry))) (now (heading .entry)) start size k symbol r ⌝ }
+{
+    // past its end there is no symbol
+    if k >= size as usize {
+        return 0;
+    }
+    degree(table, symbol, heading[start as usize + k])
+}
+
+// The set at position k: the symbols near enough to what stands there in every subterm.
+pub fn set_at(
+    table: &[u8],
+    heading: &[u16],
+    starts: &[u16],
+    sizes: &[u16],
+    count: usize,
+    k: usize,
+    cut: u16,
+) -> SymbolSet
+    requires { ⌜ SoundFile (now table) × Within (now heading) (now starts) (now sizes) count × (0 < count) × (0 < cut) ⌝ }
+    ensures { λ r. ⌜ SetAt (tableIn (now (table .entry))) (now (heading .entry)) (now (starts .entry)) (now (sizes .entry)) k cut count (r .words) ⌝ }
+{
+    let mut set = near_at(table, heading, starts[0], sizes[0], k, cut);
+    for o in 1..count {
+        set = set.intersect(near_at(table, heading, starts[o], sizes[o], k, cut));
+    }
+    set
+}
+
+// The least degree of a symbol with what stands at position k of the subterms.
+fn shared_at(
+    table: &[u8],
+    heading: &[u16],
+    starts: &[u16],
+    sizes: &[u16],
+    count: usize,
+    k: usize,
+    symbol: u16,
+) -> u16
+    requires { ⌜ SoundFile (now table) × Within (now heading) (now starts) (now sizes) count ⌝ }
+    ensures { λ r. ⌜ SharedAt (tableIn (now (table .entry))) (now (heading .entry)) (now (starts .entry)) (now (sizes .entry)) k symbol count r ⌝ }
+{
+    let mut least: u16 = 1000;
+    for o in 0..count {
+        least = lesser(
+            least,
+            degree_at(table, heading, starts[o], sizes[o], k, symbol),
+        );
+    }
+    least
+}
+
+pub struct Degrees {
+    pub lowest: u16,
+    pub highest: u16,
+}
+
+// The lowest and the highest degree that a symbol of the set shares.
+pub fn degrees_at(
+    table: &[u8],
+    heading: &[u16],
+    starts: &[u16],
+    sizes: &[u16],
+    count: usize,
+    k: usize,
+    set: SymbolSet,
+) -> Degrees
+    requires { ⌜ SoundFile (now table) × Within (now heading) (now starts) (now sizes) count ⌝ }
+    ensures { λ r. ⌜ DegreesAt (tableIn (now (table .entry))) (now (heading .entry)) (now (starts .entry)) (now (sizes .entry)) k (set .words) count (r .lowest) (r .highest) ⌝ }
+{
+    let symbols = symbol_count(table);
+    let mut lowest: u16 = 1000;
+    let mut highest: u16 = 0;
+    for s in 0..symbols {
+        if set.has(s) {
+            let least = shared_at(table, heading, starts, sizes, count, k, s);
+            lowest = lesser(lowest, least);
+            highest = greater(highest, least);
+        }
+    }
+    Degrees { lowest, highest }
+}

@@ -1,0 +1,70 @@
+// All positions of one variable.
+ghost use mathlib.Core.Path.{_≡_};
+ghost use Prim.Native.Nat.{_+_, _*_, _<_, _≤_};
+ghost use lib.ListN.{length, getD};
+ghost use Rattle.meaning.specs.Limits.{setWords};
+ghost use Rattle.meaning.specs.File.{tableIn};
+ghost use Rattle.meaning.specs.Refusals.{SoundFile};
+ghost use Rattle.meaning.specs.Over.{over};
+ghost use Rattle.positions.specs.Facing.{Within};
+ghost use Rattle.positions.specs.Variable.{VariablePacked};
+use crate::position::degrees_at;
+use crate::position::lesser;
+use crate::position::set_at;
+use sets::SymbolSet;
+
+// The set's words at position p.
+fn put_set(sets: &mut [u64], p: usize, set: SymbolSet)
+    requires { ⌜ setWords * (p + 1) ≤ length (now sets) ⌝ }
+    ensures { λ _. ⌜ now (sets .exit) ≡ over (now (sets .entry)) (setWords * p) (set .words) ⌝ }
+{
+    let words = set.words;
+    let at = SymbolSet::WORDS * p;
+    for i in 0..SymbolSet::WORDS {
+        sets[at + i] = words[i];
+    }
+}
+
+pub struct Found {
+    // some term may stand for the variable
+    pub formed: bool,
+    // the least over its positions of the lowest and of the highest degree there
+    pub lowest: u16,
+    pub highest: u16,
+}
+
+// Packs the sets of the variable that these subterms face, from position `at` on.
+pub fn pack_variable(
+    table: &[u8],
+    heading: &[u16],
+    starts: &[u16],
+    sizes: &[u16],
+    count: usize,
+    cut: u16,
+    at: usize,
+    sets: &mut [u64],
+) -> Found
+    requires { ⌜ SoundFile (now table) × Within (now heading) (now starts) (now sizes) count × (0 < count) × (0 < cut) ⌝ }
+    requires { ⌜ setWords * (at + getD (now sizes) 0 0) ≤ length (now sets) ⌝ }
+    ensures { λ r. ⌜ VariablePacked (tableIn (now (table .entry))) (now (heading .entry)) (now (starts .entry)) (now (sizes .entry)) count cut at (now (sets .entry)) (now (sets .exit)) r ⌝ }
+{
+    let mut formed = true;
+    let mut lowest: u16 = 1000;
+    let mut highest: u16 = 1000;
+    // the first subterm has as many nodes as the variable has positions
+    for k in 0..sizes[0] as usize {
+        let set = set_at(table, heading, starts, sizes, count, k, cut);
+        put_set(sets, at + k, set);
+        if set.is_empty() {
+            formed = false;
+        }
+        let degrees = degrees_at(table, heading, starts, sizes, count, k, set);
+        lowest = lesser(lowest, degrees.lowest);
+        highest = lesser(highest, degrees.highest);
+    }
+    Found {
+        formed,
+        lowest,
+        highest,
+    }
+}
