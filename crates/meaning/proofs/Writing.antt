@@ -55,7 +55,7 @@ pairs-after (pair l h d ∷ ps) pre i e =
     (ap (λ f. pairsFrom f (i + 6) (length ps)) (inv (append-assoc pre (pairBytes (pair l h d)) (pairsBytes ps)))
     ∙ pairs-after ps (pre ++ pairBytes (pair l h d)) (i + 6) (omega (arith, length-append pre (pairBytes (pair l h d)))))
 
-length-pairsBytes : (ps : List Pair) → length (pairsBytes ps) ≡ 6 * length ps
+pub length-pairsBytes : (ps : List Pair) → length (pairsBytes ps) ≡ 6 * length ps
 length-pairsBytes [] = refl
 length-pairsBytes (pair l h d ∷ ps) = omega (arith, length-pairsBytes ps)
 

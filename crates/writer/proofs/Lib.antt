@@ -7,3 +7,4 @@ pub mod Bytes
 pub mod Passing
 pub mod Rows
 pub mod Writer
+pub mod Answers

@@ -1,0 +1,5 @@
+// The question file taken apart, and the answer as lines of text.
+pub mod lines;
+pub mod nodes;
+pub mod shape;
+pub mod text;
