@@ -1,6 +1,6 @@
--- The program copies at most 1,025 nodes of a list and lends sets for as many nodes as a heading may have, where the meaning has the whole lists
--- and a set for each of the heading's nodes. The text is the same: a list that is too long is refused however much of it is there, and
--- zeros behind what is packed are in no set.
+-- The program copies at most 1,025 nodes of a list and lends sets that are no zeros, where the meaning has the whole lists and zeros. The text
+-- is the same: a list that is too long is refused however much of it is there, a match writes all of what it is lent, and zeros behind what
+-- is packed are in no set.
 use mathlib.Core.Path.{_≡_, refl, sym, ap, ap₂, _∙_, fun-ext}
 use mathlib.Core.List.{List, [], _∷_, _++_, map, append-assoc}
 use mathlib.Core.Bool.{true, false}
@@ -104,40 +104,40 @@ module _ (sets : List ℕ) (m n : ℕ) where
 abbrev spans : List ℕ
 spans = zeros (spanWidth * variableCount)
 
-module _ (table pattern heading : List ℕ) (cut m n : ℕ) (room : setWords * length heading ≤ m) (other : setWords * length heading ≤ n) where
-  enough : (k : ℕ) → setWords * length heading ≤ k → row8 heading spans (zeros k) ≡ row 8 none
+module _ (table pattern heading : List ℕ) (cut : ℕ) (sets sets′ : List ℕ) (room : setWords * length heading ≤ length sets) (room′ : setWords * length heading ≤ length sets′) where
+  enough : (ws : List ℕ) → setWords * length heading ≤ length ws → row8 heading spans ws ≡ row 8 none
   unfolding row8
-  enough k l = rw (le-ltb (length (zeros k)) (setWords * length heading) (omega (arith, length-replicate {A = ℕ} k 0)))
+  enough ws l = rw (le-ltb (length ws) (setWords * length heading) l)
 
-  same-input : inputRows table pattern heading cut spans (zeros m) ≡ inputRows table pattern heading cut spans (zeros n)
+  same-input : inputRows table pattern heading cut spans sets ≡ inputRows table pattern heading cut spans sets′
   unfolding inputRows
   same-input =
       let T = tableIn table in
-      ap (λ r. tableRows table ++ (row5 cut ∷ row6 T true pattern ∷ row7 T heading ∷ r ∷ [])) (enough m room ∙ sym (enough n other))
+      ap (λ r. tableRows table ++ (row5 cut ∷ row6 T true pattern ∷ row7 T heading ∷ r ∷ [])) (enough sets room ∙ sym (enough sets′ room′))
 
-  room-text : textIn (matchCall table pattern heading cut spans (zeros m)) ≡ textIn (matchCall table pattern heading cut spans (zeros n))
-  room-text = by (first (inputRows table pattern heading cut spans (zeros n))) refl
+  room-text : textIn (matchCall table pattern heading cut spans sets) ≡ textIn (matchCall table pattern heading cut spans sets′)
+  room-text = by (first (inputRows table pattern heading cut spans sets′)) refl
     where
       fs : List Face
       fs = facesIn table pattern heading
 
-      searched : (o : Option Refusal) → first (inputRows table pattern heading cut spans (zeros n)) ≡ none → first (searchRows table pattern heading cut) ≡ o
-          → textIn (matchCall table pattern heading cut spans (zeros m)) ≡ textIn (matchCall table pattern heading cut spans (zeros n))
+      searched : (o : Option Refusal) → first (inputRows table pattern heading cut spans sets′) ≡ none → first (searchRows table pattern heading cut) ≡ o
+          → textIn (matchCall table pattern heading cut spans sets) ≡ textIn (matchCall table pattern heading cut spans sets′)
       searched (just (refusal k place)) e q =
-          ap textIn (by-search table pattern heading cut spans (zeros m) k place (ap first same-input ∙ e) q)
-          ∙ sym (ap textIn (by-search table pattern heading cut spans (zeros n) k place e q))
+          ap textIn (by-search table pattern heading cut spans sets k place (ap first same-input ∙ e) q)
+          ∙ sym (ap textIn (by-search table pattern heading cut spans sets′ k place e q))
       searched none e q =
           let packed = packedSets (tableIn table) cut fs in
           let reply = Match (lowestOf (tableIn table) cut fs) (highestOf (tableIn table) cut fs) in
-          ap textIn (by-answer table pattern heading cut spans (zeros m) (ap first same-input ∙ e) q)
-          ∙ same-text packed (length (zeros m) - length packed) (length (zeros n) - length packed) reply (packedSpans fs ++ zeros (length spans - length (packedSpans fs)))
-          ∙ sym (ap textIn (by-answer table pattern heading cut spans (zeros n) e q))
+          ap textIn (by-answer table pattern heading cut spans sets (ap first same-input ∙ e) q)
+          ∙ same-text packed (length sets - length packed) (length sets′ - length packed) reply (packedSpans fs ++ zeros (length spans - length (packedSpans fs)))
+          ∙ sym (ap textIn (by-answer table pattern heading cut spans sets′ e q))
 
-      by : (o : Option Refusal) → first (inputRows table pattern heading cut spans (zeros n)) ≡ o
-          → textIn (matchCall table pattern heading cut spans (zeros m)) ≡ textIn (matchCall table pattern heading cut spans (zeros n))
+      by : (o : Option Refusal) → first (inputRows table pattern heading cut spans sets′) ≡ o
+          → textIn (matchCall table pattern heading cut spans sets) ≡ textIn (matchCall table pattern heading cut spans sets′)
       by (just (refusal k place)) e =
-          ap textIn (by-input table pattern heading cut spans (zeros m) k place (ap first same-input ∙ e))
-          ∙ sym (ap textIn (by-input table pattern heading cut spans (zeros n) k place e))
+          ap textIn (by-input table pattern heading cut spans sets k place (ap first same-input ∙ e))
+          ∙ sym (ap textIn (by-input table pattern heading cut spans sets′ k place e))
       by none e = searched (first (searchRows table pattern heading cut)) e refl
 
 module _ (table : List ℕ) (cut : ℕ) where
@@ -145,10 +145,10 @@ module _ (table : List ℕ) (cut : ℕ) where
       → textIn (matchCall table pattern heading cut spans sets) ≡ refusedText (numberOf g) (placeOf g)
   refused-text (refusal n place) pattern heading sets e = ap textIn (by-input table pattern heading cut spans sets n place e)
 
-  -- LAW: lists cut to 1,025 nodes, and sets for 1,024, give the same text
-  pub cut-text : (pattern heading : List ℕ) (w : ℕ) → setWords * 1024 ≤ w
-      → textIn (matchCall table (take 1025 pattern) (take 1025 heading) cut spans (zeros w)) ≡ textIn (matchCall table pattern heading cut spans (zeros (setWords * length heading)))
-  cut-text pattern heading w room = go (decLt 1024 (length heading)) (decLt 1024 (length pattern))
+  -- LAW: lists cut to 1,025 nodes, and a set for each node that is left, give the same text
+  pub cut-text : (pattern heading sets : List ℕ) → setWords * length (take 1025 heading) ≤ length sets
+      → textIn (matchCall table (take 1025 pattern) (take 1025 heading) cut spans sets) ≡ textIn (matchCall table pattern heading cut spans (zeros (setWords * length heading)))
+  cut-text pattern heading sets room = go (decLt 1024 (length heading)) (decLt 1024 (length pattern))
     where
       p : List ℕ
       p = take 1025 pattern
@@ -159,26 +159,27 @@ module _ (table : List ℕ) (cut : ℕ) where
       all : List ℕ
       all = zeros (setWords * length heading)
 
-      go : Dec (1024 < length heading) → Dec (1024 < length pattern) → textIn (matchCall table p h cut spans (zeros w)) ≡ textIn (matchCall table pattern heading cut spans all)
+      go : Dec (1024 < length heading) → Dec (1024 < length pattern) → textIn (matchCall table p h cut spans sets) ≡ textIn (matchCall table pattern heading cut spans all)
       go (yes l) d =
           let long = heading-long table cut pattern in
-          refused-text (long .0) p h (zeros w) (long .1 p h spans (zeros w) (cut-reading (tableIn table) true pattern) (omega (arith, length-take-le 1025 heading l)))
+          refused-text (long .0) p h sets (long .1 p h spans sets (cut-reading (tableIn table) true pattern) (omega (arith, length-take-le 1025 heading l)))
           ∙ sym (refused-text (long .0) pattern heading all (long .1 pattern heading spans all refl l))
       go (no k) (yes l) =
           let long = pattern-long table cut in
-          refused-text (long .0) p h (zeros w) (long .1 p h spans (zeros w) (omega (arith, length-take-le 1025 pattern l)))
+          refused-text (long .0) p h sets (long .1 p h spans sets (omega (arith, length-take-le 1025 pattern l)))
           ∙ sym (refused-text (long .0) pattern heading all (long .1 pattern heading spans all l))
       go (no k) (no l) =
-          ap₂ (λ x y. textIn (matchCall table x y cut spans (zeros w))) (take-all 1025 pattern (omega arith)) (take-all 1025 heading (omega arith))
-          ∙ room-text table pattern heading cut w (setWords * length heading) (omega arith) (omega arith)
+          let whole = take-all 1025 heading (omega arith) in
+          ap₂ (λ x y. textIn (matchCall table x y cut spans sets)) (take-all 1025 pattern (omega arith)) whole
+          ∙ room-text table pattern heading cut sets all (omega (arith, room, ap length whole)) (omega (arith, length-replicate {A = ℕ} (setWords * length heading) 0))
 
 module _ (input : List ℕ) where
   -- LAW: .. and so the text that is asked for
-  pub asked-text : (w : ℕ) → setWords * 1024 ≤ w
-      → textIn (matchCall (tableBytes input) (take 1025 (patternIn input)) (take 1025 (headingIn input)) (cutIn input) spans (zeros w)) ≡ textIn (asked input)
+  pub asked-text : (sets : List ℕ) → setWords * length (take 1025 (headingIn input)) ≤ length sets
+      → textIn (matchCall (tableBytes input) (take 1025 (patternIn input)) (take 1025 (headingIn input)) (cutIn input) spans sets) ≡ textIn (asked input)
   unfolding asked headingIn
-  asked-text w room =
-      cut-text (tableBytes input) (cutIn input) (patternIn input) (headingIn input) w room
+  asked-text sets room =
+      cut-text (tableBytes input) (cutIn input) (patternIn input) (headingIn input) sets room
       ∙ ap (λ n. textIn (matchCall (tableBytes input) (patternIn input) (headingIn input) (cutIn input) spans (zeros (setWords * n)))) (length-numbers input (14 + 2 * number input 2) (number input 4))
 
   -- LAW: what is written for a question that is not misshapen, and for one that is

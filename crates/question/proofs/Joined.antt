@@ -9,7 +9,7 @@ use native.Mathlib.Decide.{decLt}
 use native.Mathlib.Omega.{arith}
 use lib.Dec.{eqb}
 use lib.ListN.{length, length-append}
-use borrow.Author.Tests.{ne-eqb, lt-ltb, le-ltb}
+use borrow.Author.Tests.{eq-eqb, ne-eqb, lt-ltb, le-ltb}
 use Rattle.theory.specs.Least.{collect}
 use Rattle.meaning.specs.Limits.{setRoom}
 use Rattle.meaning.specs.Buffers.{holds}
@@ -50,6 +50,14 @@ some-digit n = go (decLt n 10)
         let t = (48 + n % 10) ∷ [] in
         rw (le-ltb n 10 (omega arith), digits-front 4 (n / 10) t) (omega (arith, length-append (digits 4 (n / 10) []) t))
 
+-- the line has no field yet where it starts
+first-here : (start at n : ℕ) → at ≡ start + n → eqb at start ≡ eqb n 0
+first-here start at n e = go (decLt 0 n)
+  where
+    go : Dec (0 < n) → eqb at start ≡ eqb n 0
+    go (yes l) = ne-eqb at start (λ z. omega arith) ∙ sym (ne-eqb n 0 (λ z. omega arith))
+    go (no l) = eq-eqb at start (omega arith) ∙ sym (eq-eqb n 0 (omega arith))
+
 -- ---- the symbols at a position
 
 -- those below k, joined
@@ -75,12 +83,12 @@ module _ (sets : List ℕ) (p : ℕ) where
   symbols-more k e = rw (add-one k, e) (one-more (collect k (holds sets p)) k)
 
   -- LAW: a symbol that is in the set is one field more
-  pub put-symbol : {a b d : List ℕ} {at n : ℕ} (k : ℕ) → holds sets p k ≡ true → PutBy a 0 (symbolsBelow sets p k) at b
-      → PutBy b at (cond (eqb at 0) (numeral k) (32 ∷ numeral k)) n d → length b ≡ length a → PutBy a 0 (symbolsBelow sets p (k + 1)) n d
-  put-symbol {a} {b} {d} {at} {n} k h q r l =
+  pub put-symbol : {a b d : List ℕ} {start at n : ℕ} (k : ℕ) → holds sets p k ≡ true → PutBy a start (symbolsBelow sets p k) at b
+      → PutBy b at (cond (eqb at start) (numeral k) (32 ∷ numeral k)) n d → length b ≡ length a → PutBy a start (symbolsBelow sets p (k + 1)) n d
+  put-symbol {a} {b} {d} {start} {at} {n} k h q r l =
       let text = symbolsBelow sets p k in
-      let e : at ≡ length text = omega (arith, q .ends) in
-      rw (symbols-more k h) (subst (λ i. PutBy a 0 (text ++ cond (eqb i 0) (numeral k) (32 ∷ numeral k)) n d) e (put-then q r l))
+      let e : eqb at start ≡ eqb (length text) 0 = first-here start at (length text) (q .ends) in
+      rw (symbols-more k h) (subst (λ z. PutBy a start (text ++ cond z (numeral k) (32 ∷ numeral k)) n d) e (put-then q r l))
 
   -- LAW: any other is passed over
   pub symbols-same : (k : ℕ) → holds sets p k ≡ false → symbolsBelow sets p (k + 1) ≡ symbolsBelow sets p k

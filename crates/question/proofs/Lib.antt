@@ -13,3 +13,4 @@ pub mod Rest
 pub mod Turns
 pub mod Spans
 pub mod Asked
+pub mod Answering

@@ -10,17 +10,17 @@ use Rattle.question.specs.declared.lines.Cursor.the-variants.{First, Var
 use Rattle.question.specs.Texts.{PutBy}
 use Rattle.question.specs.Lines.{replyLine, variableLine, symbolsLine, lineAt, afterReply, afterPosition, nextCursor, TextBy}
 
-module _ (reply : Reply) (spans sets : List ℕ) {cursor next : Cursor} {out after : List ℕ} {n : ℕ} where
-  pub text-first : cursor ≡ First → PutBy out 0 (replyLine reply) n after → next ≡ afterReply reply spans → TextBy reply spans sets cursor out n next after
+module _ (reply : Reply) (spans sets : List ℕ) {cursor next : Cursor} {out after : List ℕ} {at n : ℕ} where
+  pub text-first : cursor ≡ First → PutBy out at (replyLine reply) n after → next ≡ afterReply reply spans → TextBy reply spans sets cursor out at n next after
   unfolding lineAt nextCursor
   text-first e p q = rw e (record { not-over = λ z. let f : _≡_ {A = ℕ} 0 1 = cc in omega arith; put = p; next-is = q })
 
-  pub text-variable : (v : ℕ) → cursor ≡ Variable v → PutBy out 0 (variableLine v (positionCount spans v)) n after → next ≡ Position v 0
-      → TextBy reply spans sets cursor out n next after
+  pub text-variable : (v : ℕ) → cursor ≡ Variable v → PutBy out at (variableLine v (positionCount spans v)) n after → next ≡ Position v 0
+      → TextBy reply spans sets cursor out at n next after
   unfolding lineAt nextCursor
   text-variable v e p q = rw e (record { not-over = λ z. let f : _≡_ {A = ℕ} 0 1 = cc in omega arith; put = p; next-is = q })
 
-  pub text-position : (v k : ℕ) → cursor ≡ Position v k → PutBy out 0 (symbolsLine sets (firstPosition spans v + k)) n after → next ≡ afterPosition spans v k
-      → TextBy reply spans sets cursor out n next after
+  pub text-position : (v k : ℕ) → cursor ≡ Position v k → PutBy out at (symbolsLine sets (firstPosition spans v + k)) n after → next ≡ afterPosition spans v k
+      → TextBy reply spans sets cursor out at n next after
   unfolding lineAt nextCursor
   text-position v k e p q = rw e (record { not-over = λ z. let f : _≡_ {A = ℕ} 0 1 = cc in omega arith; put = p; next-is = q })

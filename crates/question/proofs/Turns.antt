@@ -1,39 +1,66 @@
--- What one line more comes to for a caller that writes line by line: what was left is the line, as it stands at the buffer's front, and what is
--- left now.
-use mathlib.Core.Path.{_≡_, sym, ap, ap₂, subst, _∙_}
-use mathlib.Core.List.{List, [], _++_}
-use Prim.Native.Nat.{ℕ, _≤_, _<_}
+-- Lines that are put one behind the other: what was to be written is what was put and what is still to be written, and with each line less of
+-- it is left.
+use mathlib.Core.Path.{_≡_, refl, sym, ap, subst, _∙_}
+use mathlib.Core.List.{List, [], _++_, append-assoc}
+use Prim.Native.Nat.{ℕ, _+_, _≤_, _<_}
 use native.Mathlib.Omega.{arith}
-use lib.ListN.{length, take}
+use lib.ListN.{length}
 use Rattle.question.specs.declared.lines.Reply.{Reply}
 use Rattle.question.specs.declared.lines.Cursor.{Cursor}
+use Rattle.question.specs.declared.lines.Cursor.the-variants.{End}
 use Rattle.question.specs.declared.lines.Line.{Line}
 use Rattle.question.specs.declared.lines.Line.the-variants.{Text, Done}
-use Rattle.question.specs.Lines.{lineAt, OnLine, restAt, LineBy}
-use Rattle.question.proofs.Puts.{put-front}
-use Rattle.question.proofs.Rest.{rest-next, rest-end, rest-falls, on-next}
+use Rattle.question.specs.declared.filling.Filled.{Filled}
+use Rattle.question.specs.Texts.{PutBy}
+use Rattle.question.specs.Lines.{lineRoom, lineAt, restAt, OnLine, LineBy}
+use Rattle.question.specs.Filling.{FilledBy}
+use Rattle.question.proofs.Puts.{put-none, put-then}
+use Rattle.question.proofs.Rest.{rest-next, rest-falls, on-next}
 
--- n bytes at the buffer's front are written, and the cursor is the next one
-pub record Turn (reply : Reply) (spans sets : List ℕ) (cursor : Cursor) (n : ℕ) (next : Cursor) (buffer : List ℕ) : Type 0 where
-  pub on : OnLine spans next
-  pub inside : n ≤ length buffer
-  pub splits : restAt reply spans sets cursor ≡ take n buffer ++ restAt reply spans sets next
-  pub less : length (restAt reply spans sets next) < length (restAt reply spans sets cursor)
+module _ (reply : Reply) (spans sets : List ℕ) (cursor : Cursor) (before : List ℕ) (at : ℕ) where
+  -- the lines up to `next` are put, and end at `end`
+  pub record Begun (end : ℕ) (next : Cursor) (out : List ℕ) : Type 0 where
+    pub text : List ℕ
+    pub put : PutBy before at text end out
+    pub splits : restAt reply spans sets cursor ≡ text ++ restAt reply spans sets next
+    pub on : OnLine spans next
+    pub same : length out ≡ length before
 
-module _ (reply : Reply) (spans sets : List ℕ) (cursor : Cursor) (before after : List ℕ) (r : Line) (by : LineBy reply spans sets cursor before r after) where
-  -- LAW: a line was put
-  pub turned : (n : ℕ) (next : Cursor) → r ≡ Text n next → OnLine spans cursor → length after ≡ length before → Turn reply spans sets cursor n next after
-  turned n next e on same =
-      let t = subst (λ r. LineBy reply spans sets cursor before r after) e by in
-      let rest = restAt reply spans sets in
-      let here = sym (put-front before (lineAt reply spans sets cursor) after n (t .put)) in
-      record {
-        on = subst (OnLine spans) (sym (t .next-is)) (on-next reply spans cursor on);
-        inside = omega (arith, t .put .inside);
-        splits = rest-next reply spans sets cursor on ∙ ap₂ (λ x c. x ++ rest c) here (sym (t .next-is));
-        less = subst (λ c. length (rest c) < length (rest cursor)) (sym (t .next-is)) (rest-falls reply spans sets cursor on (t .not-over));
-      }
+  pub begun-none : OnLine spans cursor → at ≤ length before → Begun at cursor before
+  begun-none on l = record { text = []; put = put-none l; splits = refl; on = on; same = refl }
 
-  -- LAW: done, and nothing is left
-  pub turned-last : r ≡ Done → restAt reply spans sets cursor ≡ []
-  turned-last e = ap (restAt reply spans sets) (subst (λ r. LineBy reply spans sets cursor before r after) e by .0) ∙ rest-end reply spans sets
+  module _ (end : ℕ) (next : Cursor) (out : List ℕ) (r : Line) (end′ : ℕ) (next′ : Cursor) (out′ : List ℕ) (b : Begun end next out) (by : LineBy reply spans sets next out end r out′) where
+    -- LAW: one line more
+    pub begun-line : r ≡ Text end′ next′ → length out′ ≡ length out → Begun end′ next′ out′
+    begun-line e same =
+        let t = subst (λ r. LineBy reply spans sets next out end r out′) e by in
+        let rest = restAt reply spans sets in
+        let here = lineAt reply spans sets next in
+        record {
+          text = b .text ++ here;
+          put = put-then (b .put) (t .put) (b .same);
+          splits =
+              b .splits
+              ∙ ap (λ s. b .text ++ s) (rest-next reply spans sets next (b .on) ∙ ap (λ c. here ++ rest c) (sym (t .next-is)))
+              ∙ sym (append-assoc (b .text) here (rest next′));
+          on = subst (OnLine spans) (sym (t .next-is)) (on-next reply spans next (b .on));
+          same = same ∙ b .same;
+        }
+
+    -- LAW: it leaves less
+    pub line-less : r ≡ Text end′ next′ → length (restAt reply spans sets next′) < length (restAt reply spans sets next)
+    line-less e =
+        let t = subst (λ r. LineBy reply spans sets next out end r out′) e by in
+        let rest = restAt reply spans sets in
+        subst (λ c. length (rest c) < length (rest next)) (sym (t .next-is)) (rest-falls reply spans sets next (b .on) (t .not-over))
+
+    -- LAW: no line more, and nothing is left
+    pub begun-over : r ≡ Done → (next ≡ End) × Begun end next out′
+    begun-over e =
+        let t = subst (λ r. LineBy reply spans sets next out end r out′) e by in
+        (t .0, subst (Begun end next) (sym (t .1)) b)
+
+  -- LAW: it may end at any line, if there is no room for one more or none is left
+  pub begun-filled : (r : Filled) (out : List ℕ) → Begun (r .end) (r .cursor) out → (r .end + lineRoom ≤ length before → r .cursor ≡ End)
+      → FilledBy reply spans sets cursor before at r out
+  begun-filled r out b full = record { text = b .text; put = b .put; splits = b .splits; on = b .on; full = full }

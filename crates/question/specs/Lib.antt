@@ -2,3 +2,5 @@
 pub mod Shapes
 pub mod Texts
 pub mod Lines
+pub mod Filling
+pub mod Answers

@@ -124,13 +124,14 @@ pub record Spanned (spans sets : List ℕ) : Type 0 where
   pub spans-there : spanWidth * variableCount ≤ length spans
   pub sets-there : (v : ℕ) → v < variableCount → setWords * (firstPosition spans v + positionCount spans v) ≤ length sets
 
--- The line at the cursor lies over the front of the buffer, and the cursor is the next one; done, and the buffer as it was, exactly at the end.
-module _ (reply : Reply) (spans sets : List ℕ) (cursor : Cursor) (before : List ℕ) where
-  pub record TextBy (n : ℕ) (next : Cursor) (after : List ℕ) : Type 0 where
+module _ (reply : Reply) (spans sets : List ℕ) (cursor : Cursor) (before : List ℕ) (at : ℕ) where
+  -- The line at the cursor lies over the buffer from `at` on, and the cursor is the next one.
+  pub record TextBy (end : ℕ) (next : Cursor) (after : List ℕ) : Type 0 where
     pub not-over : cursor ≡ End → ⊥
-    pub put : PutBy before 0 (lineAt reply spans sets cursor) n after
+    pub put : PutBy before at (lineAt reply spans sets cursor) end after
     pub next-is : next ≡ nextCursor reply spans cursor
 
+  -- Done, and the buffer as it was, exactly at the end.
   abbrev pub LineBy : Line → List ℕ → Type 0
-  LineBy (Text n next) after = TextBy n next after
+  LineBy (Text end next) after = TextBy end next after
   LineBy Done after = (cursor ≡ End) × (after ≡ before)

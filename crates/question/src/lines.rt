@@ -33,7 +33,7 @@ pub enum Cursor {
 }
 
 pub enum Line {
-    // how many bytes the line has, and the cursor after it
+    // where the line ends, and the cursor after it
     Text(usize, Cursor),
     Done,
 }
@@ -91,11 +91,11 @@ fn after_position(spans: &[u16], v: u16, k: u16) -> Cursor
 // ---- one line
 
 // A word and two numbers.
-fn put_fields(out: &mut [u8], word: &[u8], first: u16, second: u16) -> usize
-    requires { ⌜ length (now word) + 13 ≤ length (now out) ⌝ }
-    ensures { λ r. ⌜ PutBy (now (out .entry)) 0 (line (now (word .entry) ∷ numeral first ∷ numeral second ∷ [])) r (now (out .exit)) ⌝ }
+fn put_fields(out: &mut [u8], at: usize, word: &[u8], first: u16, second: u16) -> usize
+    requires { ⌜ at + length (now word) + 13 ≤ length (now out) ⌝ }
+    ensures { λ r. ⌜ PutBy (now (out .entry)) at (line (now (word .entry) ∷ numeral first ∷ numeral second ∷ [])) r (now (out .exit)) ⌝ }
 {
-    let word_end = put_text(out, 0, word);
+    let word_end = put_text(out, at, word);
     let first_at = put_byte(out, word_end, 32);
     let first_end = put_number(out, first_at, first);
     let second_at = put_byte(out, first_end, 32);
@@ -103,21 +103,21 @@ fn put_fields(out: &mut [u8], word: &[u8], first: u16, second: u16) -> usize
     put_byte(out, second_end, 10)
 }
 
-fn put_reply(out: &mut [u8], reply: Reply) -> usize
-    requires { ⌜ lineRoom ≤ length (now out) ⌝ }
-    ensures { λ r. ⌜ PutBy (now (out .entry)) 0 (replyLine reply) r (now (out .exit)) ⌝ }
+fn put_reply(out: &mut [u8], at: usize, reply: Reply) -> usize
+    requires { ⌜ at + lineRoom ≤ length (now out) ⌝ }
+    ensures { λ r. ⌜ PutBy (now (out .entry)) at (replyLine reply) r (now (out .exit)) ⌝ }
 {
     match reply {
-        Reply::Match(lowest, highest) => put_fields(out, b"match", lowest, highest),
-        Reply::Refused(number, place) => put_fields(out, b"refused", number, place),
+        Reply::Match(lowest, highest) => put_fields(out, at, b"match", lowest, highest),
+        Reply::Refused(number, place) => put_fields(out, at, b"refused", number, place),
     }
 }
 
-fn put_variable(out: &mut [u8], v: u16, count: u16) -> usize
-    requires { ⌜ lineRoom ≤ length (now out) ⌝ }
-    ensures { λ r. ⌜ PutBy (now (out .entry)) 0 (variableLine v count) r (now (out .exit)) ⌝ }
+fn put_variable(out: &mut [u8], at: usize, v: u16, count: u16) -> usize
+    requires { ⌜ at + lineRoom ≤ length (now out) ⌝ }
+    ensures { λ r. ⌜ PutBy (now (out .entry)) at (variableLine v count) r (now (out .exit)) ⌝ }
 {
-    let v_at = put_byte(out, 0, 120);
+    let v_at = put_byte(out, at, 120);
     let v_end = put_number(out, v_at, v);
     let count_at = put_byte(out, v_end, 32);
     let count_end = put_number(out, count_at, count);
@@ -133,47 +133,54 @@ fn in_set(sets: &[u64], position: usize, k: u16) -> bool
     (word >> (k % SymbolSet::BITS)) % 2 == 1
 }
 
-// A number, with a space before it unless it is the line's first.
-fn put_field(out: &mut [u8], at: usize, n: u16) -> usize
+// A number, with a space before it unless the line starts here.
+fn put_field(out: &mut [u8], start: usize, at: usize, n: u16) -> usize
     requires { ⌜ at + 6 ≤ length (now out) ⌝ }
-    ensures { λ r. ⌜ PutBy (now (out .entry)) at (cond (eqb at 0) (numeral n) (32 ∷ numeral n)) r (now (out .exit)) × (r ≤ at + 6) ⌝ }
+    ensures { λ r. ⌜ PutBy (now (out .entry)) at (cond (eqb at start) (numeral n) (32 ∷ numeral n)) r (now (out .exit)) × (r ≤ at + 6) ⌝ }
 {
-    if at == 0 {
-        return put_number(out, 0, n);
+    if at == start {
+        return put_number(out, at, n);
     }
     let n_at = put_byte(out, at, 32);
     put_number(out, n_at, n)
 }
 
 // The symbols at a position, rising.
-fn put_symbols(out: &mut [u8], sets: &[u64], position: usize) -> usize
-    requires { ⌜ (lineRoom ≤ length (now out)) × (setWords * (position + 1) ≤ length (now sets)) ⌝ }
-    ensures { λ r. ⌜ PutBy (now (out .entry)) 0 (symbolsLine (now (sets .entry)) position) r (now (out .exit)) ⌝ }
+fn put_symbols(out: &mut [u8], start: usize, sets: &[u64], position: usize) -> usize
+    requires { ⌜ (start + lineRoom ≤ length (now out)) × (setWords * (position + 1) ≤ length (now sets)) ⌝ }
+    ensures { λ r. ⌜ PutBy (now (out .entry)) start (symbolsLine (now (sets .entry)) position) r (now (out .exit)) ⌝ }
 {
-    let mut at: usize = 0;
+    let mut at = start;
     for k in 0..256 {
         if in_set(sets, position, k) {
-            at = put_field(out, at, k);
+            at = put_field(out, start, at, k);
         }
     }
     put_byte(out, at, 10)
 }
 
-// Puts the line at the cursor to the front of `out`, and says how long it is and where to go on.
-pub fn next_line(reply: Reply, spans: &[u16], sets: &[u64], cursor: Cursor, out: &mut [u8]) -> Line
-    requires { ⌜ Spanned (now spans) (now sets) × OnLine (now spans) cursor × (lineRoom ≤ length (now out)) ⌝ }
-    ensures { λ r. ⌜ LineBy reply (now (spans .entry)) (now (sets .entry)) cursor (now (out .entry)) r (now (out .exit)) ⌝ }
+// Puts the line at the cursor from `at` on, and says where it ends and which comes next.
+pub fn next_line(
+    reply: Reply,
+    spans: &[u16],
+    sets: &[u64],
+    cursor: Cursor,
+    out: &mut [u8],
+    at: usize,
+) -> Line
+    requires { ⌜ Spanned (now spans) (now sets) × OnLine (now spans) cursor × (at + lineRoom ≤ length (now out)) ⌝ }
+    ensures { λ r. ⌜ LineBy reply (now (spans .entry)) (now (sets .entry)) cursor (now (out .entry)) at r (now (out .exit)) ⌝ }
 {
     match cursor {
-        Cursor::First => Line::Text(put_reply(out, reply), after_reply(reply, spans)),
+        Cursor::First => Line::Text(put_reply(out, at, reply), after_reply(reply, spans)),
         Cursor::Variable(v) => Line::Text(
-            put_variable(out, v, position_count(spans, v)),
+            put_variable(out, at, v, position_count(spans, v)),
             Cursor::Position(v, 0),
         ),
         Cursor::Position(v, k) => {
             let position = first_position(spans, v) as usize + k as usize;
             Line::Text(
-                put_symbols(out, sets, position),
+                put_symbols(out, at, sets, position),
                 after_position(spans, v, k),
             )
         }

@@ -1,6 +1,6 @@
 -- At the line's start there is nothing to part the number from.
 use borrow.Author.Needs.{needs}
-use borrow.Author.Tests.{ne-eqb}
+use borrow.Author.Tests.{eq-eqb, ne-eqb}
 use native.Mathlib.Omega.{arith}
 use Rattle.question.proofs.Puts.{put-then}
 use Rattle.question.proofs.lines.put_field.Statement.{statement}
@@ -14,9 +14,9 @@ same-length c = search needs
 
 returns : tie.Need-returns
 returns c =
-    let at0 = c .before .before .before .before .if1 .taken in
+    let a = c .before .before .before .before .before .before .args in
     let p = c .before .before .put-number .ensures in
-    (rw at0 (p .0), omega arith)
+    (rw (eq-eqb (a .at) (a .start) (omega arith)) (p .0), omega arith)
 
 put-byte-requires : tie.Need-put-byte-requires
 put-byte-requires c κs = search needs
@@ -29,10 +29,10 @@ same-length-2 c = search needs
 
 returns-2 : tie.Need-returns-2
 returns-2 c =
-    let at = c .before .before .before .before .before .before .before .before .before .before .args .at in
+    let a = c .before .before .before .before .before .before .before .before .before .before .args in
     let p = c .before .before .before .before .before .before .put-byte in
     let q = c .before .before .put-number2 .ensures in
-    (rw (ne-eqb at 0 (λ e. omega arith)) (put-then (p .ensures) (q .0) (p .kept .0)), omega (arith, p .ensures .ends))
+    (rw (ne-eqb (a .at) (a .start) (λ e. omega arith)) (put-then (p .ensures) (q .0) (p .kept .0)), omega (arith, p .ensures .ends))
 
 pub put-field-spec : {M : Type 1} → statement M
 put-field-spec =

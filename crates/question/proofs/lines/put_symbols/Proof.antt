@@ -2,7 +2,7 @@
 use borrow.Author.Needs.{needs}
 use mathlib.Core.Path.{_≡_, refl, sym, subst, _∙_}
 use mathlib.Core.Logic.{⊎-elim}
-use Prim.Native.Nat.{_*_, _-_, _≤_}
+use Prim.Native.Nat.{_+_, _*_, _-_, _≤_}
 use native.Mathlib.Omega.{arith}
 use lib.ListN.{length}
 use Rattle.meaning.specs.Limits.{setRoom}
@@ -13,11 +13,11 @@ use Rattle.question.proofs.lines.put_symbols.Statement.{statement}
 use Rattle.question.proofs.lines.put_symbols.Tie as tie
 
 abbrev Inv-loop : tie.InvT-loop
-Inv-loop out₀ sets position at₀ k₀ out at k =
-    (k ≤ setRoom) × (at ≤ 6 * k) × (length out ≡ length out₀) × PutBy out₀ 0 (symbolsBelow sets position k) at out
+Inv-loop out₀ start sets position at₀ k₀ out at k =
+    (k ≤ setRoom) × (at ≤ start + 6 * k) × (length out ≡ length out₀) × PutBy out₀ start (symbolsBelow sets position k) at out
 
 abbrev μ-loop : tie.MeasureT-loop
-μ-loop out₀ sets position at₀ k₀ out at k = setRoom - k
+μ-loop out₀ start sets position at₀ k₀ out at k = setRoom - k
 
 loop-holds : tie.Need-loop-holds Inv-loop μ-loop
 loop-holds c =
@@ -59,7 +59,7 @@ returns c =
     let a = c .before .before .before .before .before .before .before .before .args in
     let loop = c .before .before .before .before .before .loop in
     let all : loop .k ≡ setRoom = omega arith in
-    rw (symbols-all (a .sets .now) (a .position)) (put-then (subst (λ k. PutBy (a .out .now) 0 (symbolsBelow (a .sets .now) (a .position) k) (loop .at) (loop .out)) all (loop .inv .3)) (c .before .before .put-byte .ensures) (loop .inv .2))
+    rw (symbols-all (a .sets .now) (a .position)) (put-then (subst (λ k. PutBy (a .out .now) (a .start) (symbolsBelow (a .sets .now) (a .position) k) (loop .at) (loop .out)) all (loop .inv .3)) (c .before .before .put-byte .ensures) (loop .inv .2))
 
 pub put-symbols-spec : {M : Type 1} → statement M
 put-symbols-spec =

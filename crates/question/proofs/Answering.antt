@@ -1,0 +1,87 @@
+-- The match is asked what the question asks, but for lists that are cut and memory that is no zeros; so it says what is written for the question.
+use mathlib.Core.Path.{_≡_, refl, sym, ap, ap₂, _∙_}
+use mathlib.Core.List.{List, [], _∷_, _++_}
+use mathlib.Core.Option.{none, some as just}
+use Prim.Native.Nat.{ℕ, _+_, _-_, _*_, _≤_, _<_, min}
+use native.Mathlib.Omega.{arith}
+use lib.Dec.{ltb}
+use lib.ListN.{length, take, drop, length-drop}
+use lib.Seq.{take-at, take-all}
+use borrow.Author.Tests.{lt-ltb, le-ltb}
+use Rattle.meaning.specs.Limits.{setWords, variableCount, spanWidth}
+use Rattle.meaning.specs.File.{number}
+use Rattle.meaning.specs.Refusals.{Refusal, refusal, numberOf, placeOf, row, row12}
+use Rattle.meaning.specs.Calls.{Answer, refused, refusedAs, Degrees, zeros}
+use Rattle.meaning.specs.Program.{numbersFrom, cutIn, patternIn, headingIn, tableBytes, refusedText}
+use Rattle.matching.specs.Outcomes.{saidMatch}
+use Rattle.matching.specs.declared.search.Outcome.{Outcome}
+use Rattle.headings.specs.Matching.{MatchHeading}
+use Rattle.question.specs.declared.lines.Reply.{Reply}
+use Rattle.question.specs.declared.lines.Reply.the-variants.{Refused}
+use Rattle.question.specs.Lines.{textIn, matchedBy, replied}
+use Rattle.question.specs.Answers.{roomFor, AnsweredBy}
+use Rattle.question.proofs.Shapes.{nodes-inside}
+use Rattle.question.proofs.Copying.{length-numbers, min-numbers}
+use Rattle.question.proofs.Spans.{match-spanned, zeros-spanned}
+use Rattle.question.proofs.Asked.{asked-text, output-asked, output-misshapen}
+
+abbrev blank : List ℕ
+blank = zeros (spanWidth * variableCount)
+
+-- LAW: the room of a question that has a header, and of one that has none
+pub room-some : (input : List ℕ) → 14 ≤ length input → roomFor input ≡ setWords * min (number input 4) 1025
+unfolding roomFor
+room-some input l = rw (le-ltb (length input) 14 l)
+
+pub room-none : (input : List ℕ) → length input < 14 → roomFor input ≡ 0
+unfolding roomFor
+room-none input l = rw (lt-ltb (length input) 14 l)
+
+-- LAW: what is copied to the front of 1,025 nodes is the list, cut
+pub copied-list : (input : List ℕ) (at : ℕ) (out out′ : List ℕ) (count n k : ℕ) → count ≡ n → length out ≡ 1025 → (k ≡ min count (length out)) × (out′ ≡ numbersFrom input at k ++ drop k out)
+    → take k out′ ≡ take 1025 (numbersFrom input at n)
+copied-list input at out out′ count n k e l (q, copied) =
+    let here : k ≡ min n 1025 = q ∙ ap₂ min e l in
+    ap (take k) copied
+    ∙ take-at (numbersFrom input at k) (drop k out) k (length-numbers input at k)
+    ∙ ap (numbersFrom input at) here
+    ∙ min-numbers input at n 1025
+
+-- LAW: what is lent from a place on is all that lies there
+pub rest-all : (xs : List ℕ) (k : ℕ) → take (length xs - k) (drop k xs) ≡ drop k xs
+rest-all xs k = take-all (length xs - k) (drop k xs) (omega (arith, length-drop k xs))
+
+-- LAW: a refusal is its number and its place
+pub in-two : (g : Refusal) → _≡_ {A = Answer Degrees} (refused (numberOf g) (placeOf g)) (refusedAs g)
+in-two (refusal n place) = refl
+
+module _ (input : List ℕ) where
+  -- LAW: a set for each node of the heading that is cut
+  pub room-enough : row12 input ≡ row 12 none → setWords * length (take 1025 (headingIn input)) ≡ roomFor input
+  unfolding headingIn
+  room-enough e =
+      let at = 14 + 2 * number input 2 in
+      let n = number input 4 in
+      ap (λ xs. setWords * length xs) (sym (min-numbers input at n 1025))
+      ∙ ap (λ k. setWords * k) (length-numbers input at (min n 1025))
+      ∙ sym (room-some input (omega (arith, nodes-inside input e)))
+
+  -- LAW: what the match says is the answer
+  pub answered : {table pattern heading spans sets spans′ sets′ : List ℕ} {cut : ℕ} {outcome : Outcome} (reply : Reply) → row12 input ≡ row 12 none → roomFor input ≤ length sets
+      → replied reply ≡ saidMatch outcome → table ≡ tableBytes input → pattern ≡ take 1025 (patternIn input) → heading ≡ take 1025 (headingIn input) → cut ≡ cutIn input
+      → spans ≡ blank → MatchHeading table pattern heading cut spans sets outcome spans′ sets′ → AnsweredBy input reply spans′ sets′
+  answered {sets = sets} reply e room says its-table its-pattern its-heading its-cut clear given =
+      let m = rw (its-table, its-pattern, its-heading, its-cut, clear) at given in
+      let table = tableBytes input in
+      let pattern = take 1025 (patternIn input) in
+      let heading = take 1025 (headingIn input) in
+      let asks = asked-text input sets (omega (arith, room-enough e)) ∙ sym (output-asked input e) in
+      record {
+        text-is = rw (says ∙ m .answers, m .spans-later, m .sets-later) asks;
+        spanned = rw (m .spans-later, m .sets-later) (match-spanned table pattern heading (cutIn input) (spanWidth * variableCount) sets (omega arith));
+      }
+
+  -- LAW: a misshapen question's answer
+  pub answered-misshapen : (sets : List ℕ) → row12 input ≡ row 12 (just 0) → AnsweredBy input (Refused 12 0) blank sets
+  answered-misshapen sets e =
+      record { text-is = sym (output-misshapen input e); spanned = zeros-spanned (spanWidth * variableCount) sets (omega arith) }

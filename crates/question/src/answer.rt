@@ -1,0 +1,76 @@
+// The answer to a question: what the match says of it.
+ghost use mathlib.Core.Path.{_≡_};
+ghost use Prim.Native.Nat.{_*_, _≤_};
+ghost use lib.ListN.{length};
+ghost use Rattle.meaning.specs.Limits.{variableCount, spanWidth};
+ghost use Rattle.meaning.specs.Calls.{zeros};
+ghost use Rattle.matching.specs.Outcomes.{saidMatch};
+ghost use Rattle.question.specs.Shapes.{HeaderBy};
+ghost use Rattle.question.specs.Lines.{replied};
+ghost use Rattle.question.specs.Answers.{roomFor, AnsweredBy};
+use crate::lines::Reply;
+use crate::nodes::copy_nodes;
+use crate::nodes::fewer;
+use crate::shape::Header;
+use crate::shape::Shape;
+use crate::shape::take_apart;
+use headings::matches::match_heading;
+use matching::search::Outcome;
+use sets::SymbolSet;
+use table::number::number_at;
+
+// One node more than a list may have, so that a list that is too long still is when it is cut.
+const LONGEST: usize = 1025;
+
+// How many words the sets of a question's answer need.
+pub fn room_for(input: &[u8]) -> usize
+    ensures { λ r. ⌜ r ≡ roomFor (now (input .entry)) ⌝ }
+{
+    if input.len() < 14 {
+        return 0;
+    }
+    SymbolSet::WORDS * fewer(number_at(input, 4) as usize, LONGEST)
+}
+
+fn reply_of(outcome: Outcome) -> Reply
+    ensures { λ r. ⌜ replied r ≡ saidMatch outcome ⌝ }
+{
+    match outcome {
+        Outcome::Match(lowest, highest) => Reply::Match(lowest, highest),
+        Outcome::Refused(why) => Reply::Refused(why.number(), why.place()),
+    }
+}
+
+// The answer to a question with this header.
+fn answer_asked(input: &[u8], header: Header, spans: &mut [u16], sets: &mut [u64]) -> Reply
+    requires { ⌜ HeaderBy (now input) header ⌝ }
+    requires { ⌜ (now spans ≡ zeros (spanWidth * variableCount)) × (roomFor (now input) ≤ length (now sets)) ⌝ }
+    ensures { λ r. ⌜ AnsweredBy (now (input .entry)) r (now (spans .exit)) (now (sets .exit)) ⌝ }
+{
+    let mut pattern = [0u16; LONGEST];
+    let mut heading = [0u16; LONGEST];
+    let heading_at = 14 + 2 * header.pattern as usize;
+    let table_at = heading_at + 2 * header.heading as usize;
+    let m = copy_nodes(input, 14, header.pattern as usize, &mut pattern);
+    let n = copy_nodes(input, heading_at, header.heading as usize, &mut heading);
+    let outcome = match_heading(
+        &input[table_at..],
+        &pattern[..m],
+        &heading[..n],
+        header.cut,
+        spans,
+        sets,
+    );
+    reply_of(outcome)
+}
+
+// The answer to a question. The lines of its text are read from the reply, the spans and the sets.
+pub fn answer(input: &[u8], spans: &mut [u16], sets: &mut [u64]) -> Reply
+    requires { ⌜ (now spans ≡ zeros (spanWidth * variableCount)) × (roomFor (now input) ≤ length (now sets)) ⌝ }
+    ensures { λ r. ⌜ AnsweredBy (now (input .entry)) r (now (spans .exit)) (now (sets .exit)) ⌝ }
+{
+    match take_apart(input) {
+        Shape::Misshapen => Reply::Refused(12, 0),
+        Shape::Question(header) => answer_asked(input, header, spans, sets),
+    }
+}
