@@ -1,0 +1,280 @@
+"""Cases that were chosen by hand: document 01's examples, and for each rule the inputs on both sides of it.
+
+A group adds its cases to the collector that it is given, with the answer where it is known from another source than the reference.
+"""
+import reference
+from drawing import X, with_byte
+from reference import table_bytes
+
+T = table_bytes([2, 1, 1, 1, 1, 0, 0, 0],
+                [(1, 2, 500), (1, 3, 600), (1, 4, 700), (2, 3, 600), (2, 4, 800), (5, 6, 500), (5, 7, 700), (6, 7, 800)])
+PATTERN, HEADING = [0, X, X], [0, 1, 5, 2, 6]     # the listing's
+
+
+def document(cases):
+    """Document 01's examples."""
+    for a, b, told in (5, 7, 700), (5, 5, 1000), (0, 1, 0):
+        cases.symbol_degree(T, a, b, 'degree %d' % told)
+    cases.degree(T, [1, 5], [4, 7], 'degree 700')
+    cases.degree(T, [1, 5], [5], 'degree 0')
+    for cut, told in (500, 'match 500 700'), (600, 'match 600 700'), (601, 'match 700 700'), (700, 'match 700 700'), (701, 'refused 10 0'):
+        cases.match(T, PATTERN, HEADING, cut, told)
+    cases.match(T, [1, X], [2, 6], 500, 'match 500 500')
+    cases.match(T, [1, X], [2, 6], 501, 'refused 9 0')
+    cases.match(T, [X + 2], [5], 700, 'match 700 1000')
+    cases.match(T, [5], [7], 700, 'match 700 700')
+    cases.match(T, [0, 0, X, X, 5], [0, 0, 5, 6, 6], 701, 'refused 9 4')
+    cases.match(T, [], HEADING, 600, 'refused 6 0')
+    cases.match(T, [0, X], HEADING, 600, 'refused 6 2')
+    cases.match(T, [5, 5], HEADING, 600, 'refused 6 1')
+    cases.match(T, PATTERN, [X], 600, 'refused 7 0')
+    cases.match(T, PATTERN, HEADING, 0, 'refused 5 0')
+    cases.match(T, PATTERN, HEADING, 1001, 'refused 5 0')
+    cases.match(T, PATTERN, HEADING, 600, 'refused 8 0', sets=19)
+    cases.match(T, PATTERN, HEADING, 600, 'match 600 700', sets=20)
+
+
+# ---- tables
+
+def wide_table():
+    """256 symbols: two of arity 1, and constants, of which those at the ends of the words of a set are near each other."""
+    ends = [2, 63, 64, 127, 128, 191, 192, 255]
+    pairs = [(a, b, 400 + a + b) for a in ends for b in ends if a < b]
+    return table_bytes([1, 1] + [0] * 254, [(0, 1, 900)] + pairs)
+
+
+def largest_table():
+    """256 constants and 8,192 pairs."""
+    pairs = [(a, b, 1 + (7 * a + b) % 1000) for a in range(256) for b in range(a + 1, 256)]
+    return table_bytes([0] * 256, pairs[:8192])
+
+
+# one for each reason that a table can be refused for
+UNSOUND = [(T[:9], 'refused 1 0'), (with_byte(T, 0, 0), 'refused 2 0'), (T[:65], 'refused 1 0'), (T + b'\0', 'refused 1 0'),
+           (with_byte(T, 4, 11), 'refused 1 0'), (with_byte(T, 12, 9), 'refused 3 2'), (with_byte(T, 30, 4), 'refused 4 2')]
+
+
+def tables(cases):
+    for a in range(9):
+        for b in range(9):
+            cases.symbol_degree(T, a, b)
+    for a, b in (32768, 32768), (65535, 0), (0, 65535), (263, 7):
+        cases.symbol_degree(T, a, b, 'degree 0')
+    for table, told in UNSOUND + [(b'', 'refused 1 0')]:
+        cases.symbol_degree(table, 5, 7, told)
+        cases.degree(table, [5, 5], [], told)
+        cases.match(table, [], [X], 0, told, spans=0, sets=0)
+    wide = wide_table()
+    for a, b, told in (2, 255, 657), (255, 2, 657), (255, 255, 1000), (256, 256, 0), (127, 128, 655), (1, 0, 900), (3, 4, 0):
+        cases.symbol_degree(wide, a, b, 'degree %d' % told)
+    largest = largest_table()
+    last = reference.read_table(largest).pairs[-1]
+    cases.symbol_degree(largest, last[1], last[0], 'degree %d' % last[2])
+    cases.degree(with_byte(largest, len(largest) - 1, 4), [0], [1], 'refused 4 8191')
+    cases.match(largest, [X], [0], 200)
+
+
+# ---- terms
+
+def sized_term(count):
+    """A heading of T with so many nodes, none of them deep."""
+    if count == 1:
+        return [5]
+    if count % 2 == 0:
+        return [1] + sized_term(count - 1)
+    half = (count - 1) // 2
+    return [0] + sized_term(half) + sized_term(count - 1 - half)
+
+
+def nested(depth, innermost):
+    return [1] * (depth - 1) + [innermost]
+
+
+# lists over T that are no terms, with the place, and those that a variable alone keeps from being headings
+NO_TERMS = [([], 0), ([0], 1), ([0, 5], 2), ([5, 5], 1), ([1, 5, 5], 2), ([0, 65535], 1), ([5, 65535], 1), ([0, 1, 5], 3),
+            ([8], 0), ([255], 0), ([256], 0), ([32767], 0), ([32800], 0), ([65535], 0), ([0, 5, 8], 2), ([0, 5, 32800], 2),
+            (nested(65, 5), 64), (nested(66, 5), 64), ([1] * 64, 64), ([1] * 65, 64), (nested(65, X), 64),
+            ([0, 5] * 63 + [0, 5, 5], 127),
+            (sized_term(1025), 1024), (sized_term(1023) + [5], 1023), (sized_term(1024)[:1023], 1023), (sized_term(1025)[:1024], 1024),
+            ([65535] * 1025, 1024), ([5] * 1025, 1024), ([5] * 1100, 1024), ([65535] * 1024, 0)]
+ONLY_PATTERNS = [([X], 0), ([32799], 0), ([0, 5, X], 2), ([1, 32799], 1), (nested(64, X), 63), (sized_term(1024)[:1023] + [X], 1023)]
+
+
+def terms(cases):
+    for nodes, place in NO_TERMS + ONLY_PATTERNS:
+        cases.degree(T, nodes, [5], 'refused 6 %d' % place)
+        cases.degree(T, [5], nodes, 'refused 7 %d' % place)
+        cases.match(T, [X], nodes, 500, 'refused 7 %d' % place)
+    for nodes, place in NO_TERMS:
+        cases.match(T, nodes, [5], 500, 'refused 6 %d' % place)
+        cases.subterm(T, nodes, 0, 'part 0')
+    for nodes, _ in ONLY_PATTERNS:
+        cases.subterm(T, nodes, len(nodes) - 1, 'part 1 %d' % nodes[-1])
+    cases.degree(T, [5, 5], [0], 'refused 6 1')
+    cases.degree(T, nested(64, 5), nested(64, 7), 'degree 700')
+    cases.degree(T, sized_term(1024), sized_term(1024), 'degree 1000')
+    cases.degree(T, sized_term(1024), sized_term(1024)[:-1] + [7], 'degree 700')
+    cases.degree(T, sized_term(1024), sized_term(1023), 'degree 0')
+    wide = wide_table()
+    for node in 256, 32767, 32768, 32799, 32800, 65535:
+        cases.degree(wide, [0, node], [0, 255], 'refused 6 1')
+        cases.degree(wide, [0, 255], [0, node], 'refused 7 1')
+        cases.match(wide, [0, node], [0, 255], 500, 'match 657 1000' if node in (32768, 32799) else 'refused 6 1')
+        cases.match(wide, [X], [node], 500, 'refused 7 0')
+    cases.match(wide, [255], [255], 1000, 'match 1000 1000')
+
+
+def subterms(cases):
+    for term in HEADING, PATTERN, [X + 31], [5], [1, 1, X], nested(64, X), [0, 0, 1, X, 2, 6, 0, 3, 3, 7, 0, X + 1, X]:
+        for index in list(range(len(term) + 2)) + [65535]:
+            cases.subterm(T, term, index)
+    long = sized_term(1024)
+    for index in 0, 1, 512, 1000, 1023, 1024:
+        cases.subterm(T, long, index)
+    cases.subterm(T, HEADING, 1, 'part 2 1 5')
+    cases.subterm(T, [5], 1, 'part 0')
+    eight = table_bytes([8, 0, 3], [])
+    for index in range(16):
+        cases.subterm(eight, [0, 1, X, 2, 1, 1, X + 3, 1, 2, 1, 2, 1, 1, 1, X, 1, 1, X, 1], index)
+    for table, _ in UNSOUND:
+        cases.subterm(table, HEADING, 1, 'part 0')
+
+
+def nearest(cases):
+    one, two, heading = [2, 6], [4, 5], [1, 5]
+    cases.nearer(T, heading, one, two, 'nearer 2 4 5')
+    cases.nearer(T, heading, two, one, 'nearer 2 4 5')
+    cases.nearer(T, heading, [5], [0, 5, 5], 'nearer 1 5')            # 0 and 0
+    cases.nearer(T, heading, [0, 5, 5], [5], 'nearer 3 0 5 5')
+    cases.nearer(T, [5], [7], [7], 'nearer 1 7')
+    cases.nearer(T, [1, 6], [3, 6], [1, 7], 'nearer 2 1 7')           # 600 and 800
+    cases.nearer(T, [1, 1, 5], [2, 1, 5], [1, 1, 6], 'nearer 3 2 1 5')   # 500 and 500
+    cases.nearer(T, [1, 1, 5], [1, 1, 6], [2, 1, 5], 'nearer 3 1 1 6')
+    cases.nearer(T, heading, [4, 5], heading, 'nearer 2 1 5')
+    cases.nearer(T, sized_term(1024), sized_term(1024)[:-1] + [6], sized_term(1024)[:-1] + [7])
+    for table, _ in UNSOUND:
+        cases.nearer(table, heading, one, two, 'nearer 0')
+    for nodes, _ in NO_TERMS[:10] + ONLY_PATTERNS:
+        cases.nearer(T, nodes, one, two, 'nearer 0')
+        cases.nearer(T, heading, nodes, two, 'nearer 0')
+        cases.nearer(T, heading, one, nodes, 'nearer 0')
+
+
+# ---- matches
+
+def rooms(cases):
+    """Buffers that are too short, just long enough and longer; after every kind of answer."""
+    for spans, sets, told in ((63, 20, 'refused 8 0'), (64, 19, 'refused 8 0'), (64, 20, 'match 600 700'), (65, 20, 'match 600 700'),
+                              (64, 21, 'match 600 700'), (71, 4111, 'match 600 700'), (0, 20, 'refused 8 0'), (64, 0, 'refused 8 0'),
+                              (0, 0, 'refused 8 0'), (71, 19, 'refused 8 0'), (63, 4111, 'refused 8 0')):
+        cases.match(T, PATTERN, HEADING, 600, told, spans, sets)
+    for spans, sets in (64, 20), (71, 4111), (0, 0):
+        enough = sets >= 20
+        cases.match(T[:65], PATTERN, HEADING, 600, 'refused 1 0', spans, sets)
+        cases.match(T, PATTERN, HEADING, 0, 'refused 5 0', spans, sets)
+        cases.match(T, [5, 5], HEADING, 600, 'refused 6 1', spans, sets)
+        cases.match(T, PATTERN, HEADING + [5], 600, 'refused 7 5', spans, sets)
+        cases.match(T, [0, X, 2, X], HEADING, 701, 'refused 10 0' if enough else 'refused 8 0', spans, sets)
+        cases.match(T, [0, X, 1, X], HEADING, 701, 'refused 9 2' if enough else 'refused 8 0', spans, sets)
+        cases.match(T, [0, 1, X + 31, 2, X], HEADING, 500, 'match 500 1000' if enough else 'refused 8 0', spans, sets)
+        cases.match(T, HEADING, HEADING, 1000, 'match 1000 1000' if enough else 'refused 8 0', spans, sets)
+
+
+def order(cases):
+    """Of several faults the earlier row is told."""
+    for table, told in UNSOUND:
+        cases.match(table, PATTERN, HEADING, 600, told)
+        cases.match(table, [5, 5], [X], 1001, told)
+    for cut in 0, 1001, 1002, 32768, 65535:
+        cases.match(T, [5, 5], [X], cut, 'refused 5 0', spans=0)
+    cases.match(T, [5, 5], [5, X], 600, 'refused 6 1', spans=0)
+    cases.match(T, [0, X, X], [5, X], 600, 'refused 7 1', spans=0)
+    cases.match(T, [1, 5], [0, 5, 5], 600, 'refused 8 0', sets=11)
+    cases.match(T, [1, 5], [0, 5, 5], 600, 'refused 9 0', sets=12)
+
+
+def clashes(cases):
+    cases.match(T, [0, X, 5], [0, 1, 1, 1, 5, 6], 701, 'refused 9 2')
+    cases.match(T, [5], [6], 500, 'match 500 500')
+    cases.match(T, [5], [6], 501, 'refused 9 0')                      # 7 is near both, which does not count
+    cases.match(T, [0, 1, X, 6], [0, 2, 5, 7], 600, 'refused 9 1')
+    cases.match(T, [0, 1, X, 6], [0, 3, 5, 5], 600, 'refused 9 3')
+    cases.match(T, [0, 5, 5], [0, 6, 6], 600, 'refused 9 1')
+    cases.match(T, [1, 5], [5], 1, 'refused 9 0')
+    cases.match(T, [5], [1, 5], 1, 'refused 9 0')
+    cases.match(T, [0, 0, X, X, 5], [0, 0, 5, 6, 6], 500, 'match 500 500')
+    cases.match(T, [0, 1, 1, X, X], [0, 1, 2, 5, 5], 800, 'refused 9 2')
+    cases.match(T, [0, 0, X, X, 0, X + 1, 5], [0, 0, 5, 1, 5, 1, 5], 1, 'refused 9 4')   # no form, and after it a clash of arities
+
+
+def formless(cases):
+    two = [0, 0, X + 4, X + 4, 0, X + 2, X + 2]
+    cases.match(T, two, [0, 0, 5, 6, 0, 5, 6], 701, 'refused 10 2')   # the least number, not the first that stands there
+    cases.match(T, two, [0, 0, 5, 6, 0, 5, 7], 701, 'refused 10 2')
+    cases.match(T, two, [0, 0, 5, 7, 0, 5, 6], 700, 'match 700 700')
+    cases.match(T, two, [0, 0, 1, 5, 5, 0, 6, 6], 701, 'refused 10 4')
+    cases.match(T, [0, 0, X + 31, X + 31, 0, X, X + 1], [0, 0, 5, 1, 5, 0, 6, 6], 1, 'refused 10 31')
+    for pattern, heading in (([0, X, X], [0, 5, 1, 5]), ([0, X, X], [0, 1, 5, 5]), ([0, X, X], [0, 0, 5, 5, 0, 5, 1, 5]),
+                             ([0, X, X], [0, 0, 1, 5, 5, 0, 5, 1, 5]), ([0, X, X], [0, 1, 1, 5, 1, 5])):
+        cases.match(T, pattern, heading, 1, 'refused 10 0')           # unlike shapes
+    shared = table_bytes([3] + [0] * 6, [(1, 4, 500), (1, 5, 500), (2, 4, 500), (2, 6, 500), (3, 5, 500), (3, 6, 500)])
+    cases.match(shared, [0, X, X, X], [0, 1, 2, 3], 500, 'refused 10 0')   # two by two they share a form, together none
+    cases.match(shared, [0, X, X, X], [0, 1, 2, 1], 500, 'match 500 500')
+    cases.match(shared, [0, X, X, X + 1], [0, 1, 2, 3], 500, 'match 500 500')
+    cases.match(shared, [0, X, X, X], [0, 4, 2, 6], 500, 'match 500 500')
+
+
+def found(cases):
+    for cut in 1, 499, 500, 501, 599, 600, 601, 699, 700, 701, 1000:
+        cases.match(T, PATTERN, HEADING, cut)
+        cases.match(T, [0, X + 1, X], [0, 1, 5, 6], cut)              # packed by first standing, not by number
+        cases.match(T, [0, X, X], [0, 5, 5], cut)
+    cases.match(T, [0, X, X], [0, 5, 6], 1, 'match 500 700')
+    cases.match(T, PATTERN, [0, 1, 5, 1, 6], 500, 'match 500 700')
+    cases.match(T, [0, 0, X + 9, X + 3, 0, X + 3, X + 9], [0, 0, 1, 5, 6, 0, 7, 2, 6], 500)
+    cases.match(T, [0, X, 0, X + 30, X], [0, 1, 5, 0, 0, 6, 7, 4, 7], 600)
+    cases.match(T, nested(64, X), nested(64, 5), 700, 'match 700 1000')
+    cases.match(T, [X], nested(64, 5), 500)
+    thousand = table_bytes([0, 0], [(0, 1, 1000)])
+    for cut in 1, 1000:
+        cases.match(thousand, [X], [0], cut, 'match 1000 1000')
+        cases.match(thousand, [0], [1], cut, 'match 1000 1000')
+    alone = table_bytes([0], [])
+    cases.match(alone, [X], [0], 1, 'match 1000 1000')
+    wide = wide_table()
+    for cut in 1, 465, 466, 527, 592, 593, 655, 656, 657, 658, 719, 720, 846, 847, 848, 1000:
+        for symbol in 2, 64, 128, 255:
+            cases.match(wide, [X], [symbol], cut)
+    cases.match(wide, [0, X], [1, 127], 600, 'match 655 900')
+
+
+def many(cases):
+    """All 32 variables, and the longest lists."""
+    spread = table_bytes([4, 8, 0, 0, 0, 4], [(0, 5, 950), (2, 3, 600), (3, 4, 800)])
+    constants = [2 + i * i % 3 for i in range(32)]
+
+    def over(leaves):
+        return [0] + [node for i in range(0, 32, 8) for node in [1] + leaves[i:i + 8]]
+    for variables in list(range(32)), list(range(31, -1, -1)), [(5 * v + 7) % 32 for v in range(32)], [v // 2 for v in range(32)]:
+        for cut in 500, 600, 601, 801:
+            cases.match(spread, over([X + v for v in variables]), [5] + over(constants)[1:], cut)
+    for count in 63, 64, 65, 66, 1023, 1024:                          # one variable at every constant, and many
+        shape = sized_term(count)
+        cases.match(T, [X if node == 5 else node for node in shape], shape, 700, 'match 700 1000')
+        cases.match(T, [X + i % 32 if node == 5 else node for i, node in enumerate(shape)],
+                    [5 + i % 32 % 3 if node == 5 else node for i, node in enumerate(shape)], 800, 'match 800 1000')
+    long = sized_term(1024)
+    cases.match(T, [X], long, 500)
+    cases.match(T, [X], long, 1000, spans=71, sets=4111)
+    cases.match(T, long, long, 1000, 'match 1000 1000')
+    cases.match(T, long[:-1] + [X + 5], long, 700, 'match 700 1000')
+    cases.match(T, long[:-1] + [6], long, 501, 'refused 9 1023')
+    cases.match(T, [X], long, 500, 'refused 8 0', sets=4095)
+    half = sized_term(511)
+    cases.match(T, [1, 0, X, X], [1, 0] + half + half, 600)
+    cases.match(T, [1, 0, X, X], [1, 0] + half + half[:-1] + [6], 600, 'match 700 700')
+    cases.match(T, [1, 0, X, X], [1, 0] + half + half[:-1] + [6], 701, 'refused 10 0')
+    cases.match(T, [1, 0, X, X], [1, 0] + half + [0] + half[2:] + [5], 500)
+
+
+GROUPS = [document, tables, terms, subterms, nearest, rooms, order, clashes, formless, found, many]

@@ -1,0 +1,66 @@
+#!/usr/bin/env python3
+"""Makes crates/replay/stdin and stdout: several thousand questions, and what the reference answers to them.
+
+    make_replay_vectors.py            writes both files, and says how often each answer is given
+    make_replay_vectors.py --check    says whether the stored files are what is made today
+
+The published examples and document 01's come first, then questions chosen for each rule and limit, then drawn ones. The input ends inside
+its last question.
+"""
+from collections import Counter
+
+import chosen_cases
+import edge_matches
+import edge_questions
+import stored
+from drawing import Draw
+from drawn_questions import draw_bytes, draw_damaged, draw_question
+from questions import Questions
+from replay import framed, replies
+
+SEED, SOUND, DAMAGED, ANY = 5, 2200, 700, 100
+
+
+def published(asked):
+    for vector in stored.published()['vectors']:
+        if vector['kind'] == 'match':
+            question, answer = bytes.fromhex(vector['question_hex']), vector['stdout']
+            asked.ask(question, answer.split('\n')[0])
+            assert asked.answers[question] == answer, vector['id']
+
+
+def drawn(asked):
+    draw = Draw(SEED)
+    for kind, count in (draw_question, SOUND), (draw_damaged, DAMAGED), (draw_bytes, ANY):
+        for _ in range(count):
+            asked.ask(kind(draw))
+
+
+def made():
+    asked = Questions()
+    for group in [published] + chosen_cases.GROUPS + edge_questions.GROUPS + edge_matches.GROUPS + [drawn]:
+        group(asked)
+    batch = b''.join(map(framed, asked.asked)) + framed(edge_questions.LISTING)[:-1]
+    return {'stdin': batch, 'stdout': replies(batch)}
+
+
+def tally(output):
+    """How often each answer is given."""
+    told = Counter()
+    for line in output.decode().split('\n'):
+        fields = line.split(' ')
+        if fields[0] in ('match', 'refused', 'cut'):
+            told[fields[0] if fields[0] == 'match' else ' '.join(fields[:2])] += 1
+    return told
+
+
+def main():
+    files = made()
+    told = tally(files['stdout'])
+    stored.keep('replay', files, sum(told.values()), 'questions')
+    for answer in sorted(told, key=lambda answer: (len(answer), answer)):
+        print('%6d %s' % (told[answer], answer))
+
+
+if __name__ == '__main__':
+    main()
