@@ -1,13 +1,15 @@
-"""Holds reference.match against the definition of a matcher, by trying all substitutions on small tables.
+"""Holds the reference's printed answers against the definition of a matcher, by trying all substitutions on small tables.
 
 usage: brute_force.py [CASES]
 
 A substitution gives each variable of the pattern a ground term. A term that reaches the cut with a subterm of the heading has that
-subterm's shape, so that terms with one node more than the heading are enough; all of them are tried.
+subterm's shape, so that terms with one node more than the subterms that face variables are enough; all of them are tried. What is held
+against them is read back from the answer's text. The place of a refusal is found by paths and by trying all terms.
 """
 import itertools
 import random
 import sys
+from collections import Counter
 
 import reference as ref
 
@@ -48,14 +50,69 @@ def matchers(table, cut, pattern, heading, terms):
             yield given, degree
 
 
-def drawn(found, given):
-    return all(len(ref.preorder(t)) == len(found.sets[v]) and all(s in chosen for s, chosen in zip(ref.preorder(t), found.sets[v]))
+def drawn(sets, given):
+    return all(len(ref.preorder(t)) == len(sets[v]) and all(s in chosen for s, chosen in zip(ref.preorder(t), sets[v]))
                for v, t in given.items())
 
 
+def read_answer(text):
+    """Lowest, highest and the sets of each variable, as the text of a match has them, or number and place of a refusal."""
+    assert text.endswith('\n')
+    first, *lines = text[:-1].split('\n')
+    kind, *numbers = first.split(' ')
+    sets = {}
+    for line in lines:
+        if line.startswith('x'):
+            v, count = line[1:].split(' ')
+            assert not sets or int(v) > max(sets)
+            sets[int(v)] = positions = []
+            assert int(count) > 0
+            left = int(count)
+        else:
+            symbols = [int(s) for s in line.split(' ')]
+            assert symbols == sorted(set(symbols)) and left > 0
+            positions.append(symbols)
+            left -= 1
+        assert line == ' '.join(line.split())
+    assert not sets or left == 0
+    return kind, tuple(map(int, numbers)), sets
+
+
+def at_path(term, path):
+    """The subterm at the path; None if the term has no such path."""
+    for i in path:
+        if term is None or term[0] == ref.VARIABLE or i >= len(term[1]):
+            return None
+        term = term[1][i]
+    return term
+
+
+def paths(pattern):
+    """The pattern's paths in preorder."""
+    return [()] + [(i,) + path for i, a in enumerate(pattern[1]) for path in paths(a)] if pattern[0] != ref.VARIABLE else [()]
+
+
+def facing(pattern, heading):
+    """Each node of the pattern, in preorder, with what the heading has at its path."""
+    return [(at_path(pattern, path), at_path(heading, path)) for path in paths(pattern)]
+
+
+def refusal(table, cut, pattern, heading, terms):
+    """The refusal of 9 or 10 that has to be given, if any."""
+    pairs = facing(pattern, heading)
+    for index, (p, h) in enumerate(pairs):
+        if p[0] != ref.VARIABLE and h is not None and table.degree(p[0], h[0]) < cut:
+            return 9, index
+    for v in variables(pattern):
+        faced = [h for p, h in pairs if p == (ref.VARIABLE, v)]
+        if not any(all(ref.degree(table, t, h) >= cut for h in faced) for t in terms):
+            return 10, v
+    return None
+
+
 def random_case(rng):
-    symbols = rng.randint(1, 4)
-    arities = [rng.choice((0, 0, 1, 2)) for _ in range(symbols)]
+    symbols = rng.randint(1, 6)
+    arities = [rng.choice((0, 0, 0, 1, 2)) for _ in range(symbols)]
     arities[rng.randrange(symbols)] = 0
     pairs = [(a, b, rng.choice((300, 500, 700, 1000))) for a in range(symbols) for b in range(a + 1, symbols)
              if arities[a] == arities[b] and rng.random() < 0.6]
@@ -72,12 +129,15 @@ def random_case(rng):
         """A heading of the pattern's shape, mostly."""
         if p[0] == ref.VARIABLE:
             return term(2, False)
-        alike = [s for s in range(symbols) if arities[s] == arities[p[0]]]
+        alike = [s for s in range(symbols) if arities[s] == arities[p[0]] and (stray or table.degree(s, p[0]) >= cut)]
         return (rng.choice(alike), [near(a) for a in p[1]])
 
+    cut, stray = rng.choice((1, 300, 400, 500, 600, 700, 1000)), rng.random() < 0.3
     pattern = term(3, True)
+    if len(written(pattern)) < 3 and rng.random() < 0.9:
+        return random_case(rng)
     heading = near(pattern) if rng.random() < 0.8 else term(3, False)
-    return table, rng.choice((1, 300, 400, 500, 600, 700, 1000)), pattern, heading
+    return table, cut, pattern, heading
 
 
 def written(pattern):
@@ -85,33 +145,60 @@ def written(pattern):
 
 
 def check(table, cut, pattern, heading):
+    """What was answered, as a list of one; none if there is too much to try."""
     nodes = ref.preorder(heading)
-    if len(nodes) > 5:
-        return False
-    terms = ground_terms(table, len(nodes) + 1)
-    if len(terms) ** len(variables(pattern)) > 40000:
-        return False
-    by_definition = list(matchers(table, cut, pattern, heading, terms))
-    try:
-        found = ref.match(ref.table_bytes(table.arities, table.pairs), written(pattern), nodes, cut)
-    except ref.Refused as why:
-        assert why.number in (9, 10) and not by_definition, (table.arities, table.pairs, cut, pattern, heading)
-        return True
-    assert by_definition, 'answered, and nothing matches'
-    degrees = [degree for _, degree in by_definition]
-    assert (found.lowest, found.highest) == (min(degrees), max(degrees))
+    if len(nodes) > 7:
+        return []
     names = variables(pattern)
+    faced = [len(ref.preorder(h)) for p, h in facing(pattern, heading) if p[0] == ref.VARIABLE and h is not None]
+    terms = ground_terms(table, 1 + max(faced, default=0))
+    if len(terms) ** len(names) > 40000:
+        return []
+    by_definition = list(matchers(table, cut, pattern, heading, terms))
+    data = ref.table_bytes(table.arities, table.pairs)
+    kind, numbers, sets = read_answer(ref.ask(ref.question(cut, written(pattern), nodes, data)))
+    if kind == 'refused':
+        assert not by_definition and numbers == refusal(table, cut, pattern, heading, terms), (table.arities, table.pairs, cut, pattern, heading)
+        return ['refused %d' % numbers[0]]
+    assert kind == 'match' and by_definition, 'answered, and nothing matches'
+    degrees = [degree for _, degree in by_definition]
+    assert numbers == (min(degrees), max(degrees)) and list(sets) == names
+    matching = [given for given, _ in by_definition]
     for chosen in itertools.product(terms, repeat=len(names)):
         given = dict(zip(names, chosen))
-        assert drawn(found, given) == any(given == m for m, _ in by_definition)
-    return True
+        assert drawn(sets, given) == (given in matching)
+    return ['match']
+
+
+def check_faults(arities, longest):
+    """Holds the places of 6 and 7 against all terms: a list is at fault where no term goes on as it does, or where it ends too early."""
+    table, data, tried = ref.Table(arities, []), ref.table_bytes(arities, []), 0
+    constant = arities.index(0)
+    for variables, number in (True, 6), (False, 7):
+        leaves = ref.Table(arities + [0] * variables, [])             # its last symbol stands for the variable
+        nodes = [32768 if variables and s == len(arities) else s for s in range(len(leaves.arities))]
+        terms = [tuple(nodes[s] for s in ref.preorder(t)) for t in ground_terms(leaves, 1 + longest * max(arities))]
+        starts = {t[:k] for t in terms for k in range(len(t) + 1)}
+        for size in range(longest + 1):
+            for given in itertools.product(list(range(len(arities) + 1)) + [32768, 32800], repeat=size):
+                bad = [k for k in range(size) if given[:k + 1] not in starts]
+                lists = (given, (constant,)) if variables else ((constant,), given)
+                answer = ref.ask(ref.question(1, *lists, data))
+                if given in terms:
+                    assert not answer.startswith('refused %d' % number), (arities, given)
+                else:
+                    assert answer == 'refused %d %d\n' % (number, (bad + [size])[0]), (arities, given)
+                tried += 1
+    return tried
 
 
 def main():
-    wanted, rng, done = int(sys.argv[1]) if len(sys.argv) > 1 else 300, random.Random(1), 0
-    while done < wanted:
-        done += check(*random_case(rng))
-    print('%d cases, each held against all substitutions' % done)
+    wanted, rng, told = int(sys.argv[1]) if len(sys.argv) > 1 else 3000, random.Random(1), Counter()
+    while sum(told.values()) < wanted:
+        told.update(check(*random_case(rng)))
+    print('%d cases, each held against all substitutions: %s' % (wanted, ', '.join('%d %s' % (told[k], k) for k in sorted(told))))
+    tried = sum(check_faults(arities, longest) for arities, longest in (([0], 4), ([1, 0], 4), ([2, 0], 4), ([0, 2, 1], 3), ([0, 3], 3)))
+    print('%d lists, each held against all terms' % tried)
 
 
 if __name__ == '__main__':
