@@ -158,7 +158,8 @@ def check(table, cut, pattern, heading):
     data = ref.table_bytes(table.arities, table.pairs)
     kind, numbers, sets = read_answer(ref.ask(ref.question(cut, written(pattern), nodes, data)))
     if kind == 'refused':
-        assert not by_definition and numbers == refusal(table, cut, pattern, heading, terms), (table.arities, table.pairs, cut, pattern, heading)
+        assert not by_definition, (table.arities, table.pairs, cut, pattern, heading)
+        assert numbers == refusal(table, cut, pattern, heading, terms), (table.arities, table.pairs, cut, pattern, heading)
         return ['refused %d' % numbers[0]]
     assert kind == 'match' and by_definition, 'answered, and nothing matches'
     degrees = [degree for _, degree in by_definition]

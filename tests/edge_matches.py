@@ -88,7 +88,7 @@ def variables(asked):
 
 
 def positions(asked):
-    """As many positions as the heading has nodes, and one node of the pattern less."""
+    """Variables over all of the heading's nodes, over all but the first, over none; to the greatest size and depth."""
     for size in 1, 2, 63, 64, 255, 256, 1023, 1024:
         heading = sized_term(size)
         asked.match(T, [X + size % 32], heading, 1000, 'match 1000 1000')
@@ -127,13 +127,21 @@ def star(degrees):
 
 
 def longest(asked):
-    """896 constants of 1,024 nodes, each position of them with 254 symbols: no heading gives more to print. The pattern's own symbols leave
-    29 subterms to as many variables, for a line each."""
+    """896 of 1,024 nodes are constants, as many as can be, and each of their positions has 254 symbols: no heading gives more to print. The
+    pattern's own symbols leave 29 subterms to as many variables, for a line each."""
     pattern, heading = leafy(4, 0, [X + v for v in range(3, 32)]), leafy(127, 1, [255] * 896)
     asked.match(star([1000]), pattern, heading, 1000, 'match 1000 1000')
     few = star([1 + s for s in range(253)])
     for cut in 1, 200, 240, 253, 254:
         asked.match(few, [X] if cut > 200 else [1] + [X + 31] * 7, heading if cut > 200 else [1] + [255] * 7, cut)
+
+
+def greatest(asked):
+    """The longest question that is a match: 1,024 nodes twice and 8,192 pairs."""
+    pairs = [(a, b, 1 + (7 * a + b) % 1000) for a in range(2, 256) for b in range(a + 1, 256)]
+    leaves = [2 + (5 * i) % 254 for i in range(896)]
+    pattern = leafy(127, 1, [X + i // 28 if i % 28 == 0 else leaf for i, leaf in enumerate(leaves)])
+    asked.match(table_bytes([8, 7] + [0] * 254, pairs[:8192]), pattern, leafy(127, 1, leaves), 1)
 
 
 def wide(asked):
@@ -150,4 +158,4 @@ def wide(asked):
         asked.match(most, [X], [heading], cut)
 
 
-GROUPS = [clashes, formless, variables, positions, longest, wide]
+GROUPS = [clashes, formless, variables, positions, longest, greatest, wide]

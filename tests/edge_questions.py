@@ -1,7 +1,8 @@
 """Questions that the program refuses, for every number that it can print and every kind of place; each with its answer.
 
-A group adds its questions to the collector that it is given. 8, 13 and 14 belong to calls that no question makes, with buffers that the
-program never lends; 11 holds for no pattern and heading, because the variables' first subterms do not overlap.
+A group adds its questions to the collector that it is given. The program never prints 8, as its buffers are long enough for any heading;
+nor 13 and 14, which other calls give; nor 11, which holds for no question: the subterms that the variables face first do not overlap, so
+that their nodes are no more than the heading's.
 """
 from itertools import product
 
@@ -40,6 +41,9 @@ def misshapen(asked):
         asked.ask(headed((600, 3, 5, 14, 20, 30, total), LISTING[14:total]), twelve)
     for table, _ in UNSOUND:
         asked.ask(question(0, [5, 5], [X], table) + b'\0', twelve)
+    for pattern, heading in ([], []), ([X], []), ([], [5]), (PATTERN, HEADING):
+        for cut in 0, 600:                        # well shaped, with a table of no bytes
+            asked.match(b'', pattern, heading, cut, 'refused 1 0')
 
 
 def wrapped(asked):
@@ -195,11 +199,12 @@ def faults(asked):
 
 def order(asked):
     """Every choice of faults, of which the first in order is told."""
-    for longer, (table, first), cut, pattern, heading in product((False, True), UNSOUND + [(T, '')], (0, 701), ([5, 5], [0, X, 1, X], PATTERN),
-                                                                ([0, X, 5], HEADING)):
-        told = [said for said, holds in (('refused 12 0', longer), (first, first), ('refused 5 0', cut == 0), ('refused 6 1', pattern[0] == 5),
-                                         ('refused 7 1', X in heading), ('refused 9 2', len(pattern) == 4), ('refused 10 0', True)) if holds]
-        asked.ask(question(cut, pattern, heading, table) + bytes(longer), told[0])
+    tables, cuts = UNSOUND + [(T, '')], ((0, 'refused 5 0'), (701, ''))
+    patterns = ([5, 5], 'refused 6 1', ''), ([0, X, 1, X], '', 'refused 9 2'), (PATTERN, '', 'refused 10 0')
+    headings = ([0, X, 5], 'refused 7 1'), (HEADING, '')
+    for more, t, c, p, h in product((1, 0), tables, cuts, patterns, headings):
+        told = more * 'refused 12 0' or t[1] or c[1] or p[1] or h[1] or p[2]
+        asked.ask(question(c[0], p[0], h[0], t[0]) + bytes(more), told)
 
 
 GROUPS = [misshapen, wrapped, full, layouts, arity_places, pair_places, cuts, faults, order]

@@ -7,6 +7,7 @@
 The published examples and document 01's come first, then questions chosen for each rule and limit, then drawn ones. The input ends inside
 its last question.
 """
+import sys
 from collections import Counter
 
 import chosen_cases
@@ -19,6 +20,10 @@ from questions import Questions
 from replay import framed, replies
 
 SEED, SOUND, DAMAGED, ANY = 5, 2200, 700, 100
+
+# how often each answer is given; main stops if it is otherwise
+GIVEN = {'match': 2103, 'refused 1': 288, 'refused 2': 124, 'refused 3': 190, 'refused 4': 372, 'refused 5': 62, 'refused 6': 412,
+         'refused 7': 393, 'refused 9': 746, 'refused 10': 484, 'refused 12': 542, 'cut off': 1}
 
 
 def published(asked):
@@ -46,20 +51,22 @@ def made():
 
 def tally(output):
     """How often each answer is given."""
-    told = Counter()
+    given = Counter()
     for line in output.decode().split('\n'):
         fields = line.split(' ')
         if fields[0] in ('match', 'refused', 'cut'):
-            told[fields[0] if fields[0] == 'match' else ' '.join(fields[:2])] += 1
-    return told
+            given[fields[0] if fields[0] == 'match' else ' '.join(fields[:2])] += 1
+    return given
 
 
 def main():
     files = made()
-    told = tally(files['stdout'])
-    stored.keep('replay', files, sum(told.values()), 'questions')
-    for answer in sorted(told, key=lambda answer: (len(answer), answer)):
-        print('%6d %s' % (told[answer], answer))
+    given = tally(files['stdout'])
+    if given != GIVEN:
+        sys.exit('other answers than GIVEN says: %s' % dict(given))
+    stored.keep('replay', files, sum(given.values()), 'questions')
+    for answer, count in GIVEN.items():
+        print('%6d %s' % (count, answer))
 
 
 if __name__ == '__main__':

@@ -7,6 +7,7 @@ import threading
 import time
 
 LIMIT = 900                                       # seconds for a run; an emulator is slow
+TOLD = 5                                          # of the runs that go wrong so many are told, the others counted
 
 
 def run(command, given, piece=None):
@@ -51,10 +52,11 @@ class Trial:
         if (output, status) == (wanted, 0):
             return
         self.wrong += 1
-        with tempfile.NamedTemporaryFile(delete=False, prefix='wrong-') as kept:
-            kept.write(given)
-        said = 'status %d' % status if output == wanted else difference(output, wanted)
-        print('%s: %s (input kept in %s)' % (label, said, kept.name))
+        if self.wrong <= TOLD:
+            with tempfile.NamedTemporaryFile(delete=False, prefix='wrong-') as kept:
+                kept.write(given)
+            said = 'status %d' % status if output == wanted else difference(output, wanted)
+            print('%s: %s (input kept in %s)' % (label, said, kept.name))
 
     def finish(self, questions):
         print('%d runs, %d questions: %s' % (self.runs, questions, '%d runs go wrong' % self.wrong if self.wrong else 'all answered right'))
