@@ -121,19 +121,24 @@ def leafy(eights, sevens, leaves):
     return written(0) if arities else list(leaves)
 
 
-def star(degrees):
-    """Symbols of arity 8 and 7, and 254 constants, all of them near the last."""
-    return table_bytes([8, 7] + [0] * 254, [(s, 255, degrees[s % len(degrees)]) for s in range(2, 255)])
+def star(arities, rays, degrees):
+    """The last symbol is near all of these, and they to no other."""
+    return table_bytes(arities, [(s, 255, degrees[s % len(degrees)]) for s in rays])
 
 
 def longest(asked):
-    """896 of 1,024 nodes are constants, as many as can be, and each of their positions has 254 symbols: no heading gives more to print. The
-    pattern's own symbols leave 29 subterms to as many variables, for a line each."""
-    pattern, heading = leafy(4, 0, [X + v for v in range(3, 32)]), leafy(127, 1, [255] * 896)
-    asked.match(star([1000]), pattern, heading, 1000, 'match 1000 1000')
-    few = star([1 + s for s in range(253)])
+    """The longest answers: nearly all of 1,024 nodes have arity 1, and each of their positions has 254 symbols. Seventeen constants below
+    them, each with a variable to print, and four symbols above are the fewest that the depth allows."""
+    def over(parts):
+        return [1] + sum(parts[:2], []) + [node for i in (2, 7, 12) for node in [1] + sum(parts[i:i + 5], [])]
+    heading = over([[255] * ones + [0] for ones in [62] * 2 + [61] * 14 + [25]])
+    pattern = over([[X + v] for v in range(15, 32)])
+    asked.match(star([0, 5] + [1] * 254, range(2, 255), [1000]), pattern, heading, 1000, 'match 1000 1000')
+    leaves = star([8, 7] + [0] * 254, range(2, 255), range(1, 254))
     for cut in 1, 200, 240, 253, 254:
-        asked.match(few, [X] if cut > 200 else [1] + [X + 31] * 7, heading if cut > 200 else [1] + [255] * 7, cut)
+        asked.match(leaves, [1] + [X + 31] * 7, [1] + [255] * 7, cut)
+    for cut in 240, 253, 254:
+        asked.match(leaves, [X], leafy(127, 1, [255] * 896), cut)
 
 
 def greatest(asked):

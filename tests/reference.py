@@ -205,7 +205,7 @@ class Match:
 
 
 def facing(table, pattern, heading):
-    """In preorder of the pattern: (index, symbol, symbol that faces it) and (index, None, variable, subterm that faces it)."""
+    """In preorder of the pattern: all (index, symbol, symbol that faces it), and all (variable, subterm that faces it)."""
     symbols, variables, index = [], [], 0
 
     def go(p, h):
