@@ -3,6 +3,7 @@ use mathlib.Core.Path.{_≡_, refl, sym, ap, ap₂, _∙_}
 use mathlib.Core.List.{List, [], _∷_, _++_}
 use mathlib.Core.Option.{none, some as just}
 use Prim.Native.Nat.{ℕ, _+_, _-_, _*_, _≤_, _<_, min}
+use native.Mathlib.Decide.{decLt}
 use native.Mathlib.Omega.{arith}
 use lib.Dec.{ltb}
 use lib.ListN.{length, take, drop, length-drop}
@@ -36,6 +37,14 @@ room-some input l = rw (le-ltb (length input) 14 l)
 pub room-none : (input : List ℕ) → length input < 14 → roomFor input ≡ 0
 unfolding roomFor
 room-none input l = rw (lt-ltb (length input) 14 l)
+
+-- LAW: 4,100 words are enough
+pub room-most : (input : List ℕ) → roomFor input ≤ 4100
+room-most input = go (decLt (length input) 14)
+  where
+    go : Dec (length input < 14) → roomFor input ≤ 4100
+    go (yes l) = omega (arith, room-none input l)
+    go (no l) = omega (arith, room-some input (omega arith))
 
 -- LAW: what is copied to the front of 1,025 nodes is the list, cut
 pub copied-list : (input : List ℕ) (at : ℕ) (out out′ : List ℕ) (count n k : ℕ) → count ≡ n → length out ≡ 1025 → (k ≡ min count (length out)) × (out′ ≡ numbersFrom input at k ++ drop k out)

@@ -190,6 +190,10 @@ on-next reply spans End on = tt
 
 -- ---- how many lines there are
 
+pub nothing : (xs : List ℕ) → length xs ≤ 0 → xs ≡ []
+nothing [] l = refl
+nothing (x ∷ xs) l = absurd (omega arith)
+
 ended : (cursor : Cursor) → Dec (cursor ≡ End)
 ended First = no (λ e. let z : _≡_ {A = ℕ} 0 1 = cc in omega arith)
 ended (Variable v) = no (λ e. let z : _≡_ {A = ℕ} 0 1 = cc in omega arith)
@@ -236,10 +240,6 @@ module _ (reply : Reply) (spans sets : List ℕ) where
 
   all-lines : (n : ℕ) (cursor : Cursor) → OnLine spans cursor → length (restAt reply spans sets cursor) ≤ n → linesFrom reply spans sets n cursor ≡ restAt reply spans sets cursor
   all-lines zero cursor on l = sym (nothing (restAt reply spans sets cursor) l)
-    where
-      nothing : (xs : List ℕ) → length xs ≤ 0 → xs ≡ []
-      nothing [] l = refl
-      nothing (x ∷ xs) l = absurd (omega arith)
   all-lines (suc n) cursor on l =
       ap (λ t. lineAt reply spans sets cursor ++ t) (all-lines n (nextCursor reply spans cursor) (on-next reply spans cursor on) (left cursor on n l))
       ∙ sym (rest-next reply spans sets cursor on)

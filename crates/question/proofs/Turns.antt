@@ -3,8 +3,9 @@
 use mathlib.Core.Path.{_≡_, refl, sym, ap, subst, _∙_}
 use mathlib.Core.List.{List, [], _++_, append-assoc}
 use Prim.Native.Nat.{ℕ, _+_, _≤_, _<_}
+use native.Mathlib.Decide.{decLt}
 use native.Mathlib.Omega.{arith}
-use lib.ListN.{length}
+use lib.ListN.{length, length-append}
 use Rattle.question.specs.declared.lines.Reply.{Reply}
 use Rattle.question.specs.declared.lines.Cursor.{Cursor}
 use Rattle.question.specs.declared.lines.Cursor.the-variants.{End}
@@ -15,7 +16,7 @@ use Rattle.question.specs.Texts.{PutBy}
 use Rattle.question.specs.Lines.{lineRoom, lineAt, restAt, OnLine, LineBy}
 use Rattle.question.specs.Filling.{FilledBy}
 use Rattle.question.proofs.Puts.{put-none, put-then}
-use Rattle.question.proofs.Rest.{rest-next, rest-falls, on-next}
+use Rattle.question.proofs.Rest.{nothing, rest-next, rest-end, rest-falls, rest-over, on-next}
 
 module _ (reply : Reply) (spans sets : List ℕ) (cursor : Cursor) (before : List ℕ) (at : ℕ) where
   -- the lines up to `next` are put, and end at `end`
@@ -64,3 +65,20 @@ module _ (reply : Reply) (spans sets : List ℕ) (cursor : Cursor) (before : Lis
   pub begun-filled : (r : Filled) (out : List ℕ) → Begun (r .end) (r .cursor) out → (r .end + lineRoom ≤ length before → r .cursor ≡ End)
       → FilledBy reply spans sets cursor before at r out
   begun-filled r out b full = record { text = b .text; put = b .put; splits = b .splits; on = b .on; full = full }
+
+-- LAW: where there is room for a line, filling from the front leaves less
+pub fill-less : (reply : Reply) (spans sets : List ℕ) (cursor : Cursor) (before : List ℕ) (r : Filled) (after : List ℕ) → FilledBy reply spans sets cursor before 0 r after → OnLine spans cursor
+    → lineRoom ≤ length before → (cursor ≡ End → ⊥) → length (restAt reply spans sets (r .cursor)) < length (restAt reply spans sets cursor)
+fill-less reply spans sets cursor before r after f on room over = go (decLt 0 (length (f .text)))
+  where
+    rest : Cursor → List ℕ
+    rest = restAt reply spans sets
+
+    sum : length (rest cursor) ≡ length (f .text) + length (rest (r .cursor))
+    sum = ap length (f .splits) ∙ length-append (f .text) (rest (r .cursor))
+
+    go : Dec (0 < length (f .text)) → length (rest (r .cursor)) < length (rest cursor)
+    go (yes l) = omega (arith, sum)
+    go (no l) =
+        let done = ap rest (f .full (omega (arith, f .put .ends))) ∙ rest-end reply spans sets in
+        absurd (over (rest-over reply spans sets cursor on .0 (nothing (rest cursor) (omega (arith, sum, ap length done)))))

@@ -1,0 +1,4 @@
+-- Names that contracts use.
+pub mod Found
+pub mod Titles
+pub mod Turns

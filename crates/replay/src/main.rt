@@ -1,0 +1,127 @@
+// Answers the questions on standard input, one after the other, on standard output.
+mod batch;
+mod say;
+
+ghost use mathlib.Core.Path.{_≡_};
+ghost use Prim.Native.Nat.{_≤_};
+ghost use lib.ListN.{length};
+ghost use Rattle.replay.specs.Turns.{goOn, stopAt, Held};
+use batch::Next;
+use batch::next_question;
+use say::say_answer;
+use say::say_cut_off;
+use say::say_too_long;
+use serving::output::Pending;
+use serving::output::WORDS;
+use serving::output::write_out;
+
+// Twice as much as a question may have, so that bytes are moved seldom.
+const ROOM: usize = 131072;
+
+pub enum Turn {
+    // the bytes that are not used yet, from the first number up to the second, and how many are still to be written
+    Go(usize, usize, usize),
+    // the batch is over, and so many bytes are still to be written
+    Stop(usize),
+    // a write has failed
+    Failed,
+}
+
+fn go(at: usize, end: usize, pending: Pending) -> Turn
+    ensures { λ r. ⌜ r ≡ goOn at end pending ⌝ }
+{
+    match pending {
+        Pending::Bytes(used) => Turn::Go(at, end, used),
+        Pending::Failed => Turn::Failed,
+    }
+}
+
+fn stop(pending: Pending) -> Turn
+    ensures { λ r. ⌜ r ≡ stopAt pending ⌝ }
+{
+    match pending {
+        Pending::Bytes(used) => Turn::Stop(used),
+        Pending::Failed => Turn::Failed,
+    }
+}
+
+// Answers question k, if there is one.
+fn answer_next(
+    k: u64,
+    buffer: &mut [u8],
+    at: usize,
+    end: usize,
+    sets: &mut [u64],
+    out: &mut [u8],
+    used: usize,
+) -> Turn
+    requires { ⌜ (at ≤ end) × (end ≤ length (now buffer)) × (65535 ≤ length (now buffer)) ⌝ }
+    requires { ⌜ (4100 ≤ length (now sets)) × (used ≤ length (now out)) × (2048 ≤ length (now out)) ⌝ }
+    ensures { λ r. ⌜ Held (length (now (buffer .entry))) (length (now (out .entry))) r ⌝ }
+{
+    match next_question(buffer, at, end) {
+        Next::Ended => Turn::Stop(used),
+        Next::CutOff => stop(say_cut_off(k, out, used)),
+        Next::TooLong(rest, end) => go(rest, end, say_too_long(k, out, used)),
+        Next::Question(start, rest, end) => go(
+            rest,
+            end,
+            say_answer(k, &buffer[start..rest], sets, out, used),
+        ),
+    }
+}
+
+// One turn. Before it waits for more bytes it writes what it has, so that one who asks question by question is answered so too.
+fn take_turn(
+    k: u64,
+    buffer: &mut [u8],
+    at: usize,
+    end: usize,
+    sets: &mut [u64],
+    out: &mut [u8],
+    used: usize,
+) -> Turn
+    requires { ⌜ (at ≤ end) × (end ≤ length (now buffer)) × (65535 ≤ length (now buffer)) ⌝ }
+    requires { ⌜ (4100 ≤ length (now sets)) × (used ≤ length (now out)) × (2048 ≤ length (now out)) ⌝ }
+    ensures { λ r. ⌜ Held (length (now (buffer .entry))) (length (now (out .entry))) r ⌝ }
+{
+    if at < end {
+        return answer_next(k, buffer, at, end, sets, out, used);
+    }
+    if !write_out(out, used) {
+        return Turn::Failed;
+    }
+    answer_next(k, buffer, at, end, sets, out, 0)
+}
+
+// Turn after turn, until the batch is over.
+fn answer_all(buffer: &mut [u8], sets: &mut [u64], out: &mut [u8])
+    requires { ⌜ (65535 ≤ length (now buffer)) × (4100 ≤ length (now sets)) × (2048 ≤ length (now out)) ⌝ }
+{
+    let mut at: usize = 0;
+    let mut end: usize = 0;
+    let mut used: usize = 0;
+    for k in 0..u64::MAX {
+        match take_turn(k, buffer, at, end, sets, out, used) {
+            Turn::Go(new_at, new_end, new_used) => {
+                at = new_at;
+                end = new_end;
+                used = new_used;
+            }
+            Turn::Stop(left) => {
+                write_out(out, left);
+                return;
+            }
+            Turn::Failed => {
+                return;
+            }
+        }
+    }
+}
+
+fn main() {
+    let mut buffer = [0u8; ROOM];
+    let mut sets = [0u64; WORDS];
+    let mut out = io::large_buffer();
+    answer_all(&mut buffer, &mut sets, &mut out);
+}

@@ -1,0 +1,3 @@
+-- Names that contracts use.
+pub mod Unreads
+pub mod Pendings
