@@ -6,7 +6,9 @@ use Prim.Native.Nat.{ℕ}
 use denote.Ref.{ptr, now}
 use Rattle.meaning.specs.Calls.{Part, part, subterm, Nearer as Which, theFirst, theSecond, neither, nearer}
 use Rattle.headings.specs.declared.tables.DegreeAnswer.{DegreeAnswer}
-use Rattle.headings.specs.Terms.{Nodes, DegreeOfHeadings, PartOf, IsPart, Subterm, IsChosen, Nearer}
+use Rattle.headings.specs.declared.term.Choice.{Choice}
+use Rattle.headings.specs.declared.term.Choice.the-variants.{Neither, First, Second}
+use Rattle.headings.specs.Terms.{Nodes, DegreeOfHeadings, PartOf, IsPart, Subterm, IsChosen, Nearer, saidChoice, Choose}
 use Rattle.headings.proofs.OneTable.{one-said-degree}
 
 -- Both hold the same nodes and lie at the same place. A reference has nothing else that a program can see; the prover gives each part a name
@@ -38,7 +40,21 @@ one-whole one two r s theFirst n p q = p ∙ sym q
 one-whole one two r s theSecond n p q = p ∙ sym q
 one-whole one two r s neither n p q = absurd (n refl)
 
+-- the choice that says this
+abbrev choiceOf : Which → Choice
+choiceOf neither = Neither
+choiceOf theFirst = First
+choiceOf theSecond = Second
+
+choice-said : (r : Choice) → choiceOf (saidChoice r) ≡ r
+choice-said Neither = refl
+choice-said First = refl
+choice-said Second = refl
+
 -- THEOREM: any two results that a promise allows are equal
+pub one-choice : (table heading one two : List ℕ) (r s : Choice) → Choose table heading one two r → Choose table heading one two s → r ≡ s
+one-choice table heading one two r s p q = sym (choice-said r) ∙ ap choiceOf (p ∙ sym q) ∙ choice-said s
+
 pub one-degree : (table one two : List ℕ) (r s : DegreeAnswer) → DegreeOfHeadings table one two r → DegreeOfHeadings table one two s → r ≡ s
 one-degree table one two r s p q = one-said-degree r s (p ∙ sym q)
 

@@ -12,6 +12,8 @@ use Rattle.theory.specs.Read.{Reading, whole, faulty}
 use Rattle.meaning.specs.Refusals.{Refusal}
 use Rattle.meaning.specs.Calls.{headingDegree, Part, part, subterm, Nearer as Which, theFirst, theSecond, neither, nearer}
 use Rattle.headings.specs.declared.tables.DegreeAnswer.{DegreeAnswer}
+use Rattle.headings.specs.declared.term.Choice.{Choice}
+use Rattle.headings.specs.declared.term.Choice.the-variants.{Neither, First, Second}
 use Rattle.headings.specs.Tables.{saidDegree}
 
 -- a reference to a list of nodes
@@ -47,6 +49,15 @@ IsChosen one two r neither = PartOf one r 0 0
 
 abbrev pub Nearer : List ℕ → List ℕ → Nodes → Nodes → Nodes → Type 0
 Nearer table heading one two r = IsChosen one two r (nearer table heading (now one) (now two))
+
+-- Which one was chosen, without the list.
+abbrev pub saidChoice : Choice → Which
+saidChoice Neither = neither
+saidChoice First = theFirst
+saidChoice Second = theSecond
+
+abbrev pub Choose : List ℕ → List ℕ → List ℕ → List ℕ → Choice → Type 0
+Choose table heading one two r = saidChoice r ≡ nearer table heading one two
 
 -- ---- What the tests before an answer come to.
 

@@ -4,7 +4,7 @@ ghost use Rattle.theory.specs.Read.{reading};
 ghost use Rattle.meaning.specs.File.{tableIn};
 ghost use Rattle.meaning.specs.Refusals.{SoundFile, first as firstOf};
 ghost use Rattle.meaning.specs.Calls.{subtermRows, nearerRows};
-ghost use Rattle.headings.specs.Terms.{DegreeOfHeadings, Subterm, Nearer, isWhole, accepted};
+ghost use Rattle.headings.specs.Terms.{DegreeOfHeadings, Subterm, Nearer, Choose, isWhole, accepted};
 use crate::tables::DegreeAnswer;
 use refusal::Refusal;
 use table::check::Checked;
@@ -14,6 +14,14 @@ use terms::reading::Reading;
 use terms::reading::read;
 use terms::walk::Walked;
 use terms::walk::walk_from;
+
+// Which of two candidates is nearer.
+pub enum Choice {
+    // something is refused
+    Neither,
+    First,
+    Second,
+}
 
 // How near two headings are. A fault in the first is told as a pattern's is.
 pub fn degree_of_headings(table: &[u8], first: &[u16], second: &[u16]) -> DegreeAnswer
@@ -52,13 +60,24 @@ pub fn subterm<'a>(table: &[u8], term: &'a [u16], index: usize) -> &'a [u16]
 pub fn nearer<'a>(table: &[u8], heading: &[u16], first: &'a [u16], second: &'a [u16]) -> &'a [u16]
     ensures { λ r. ⌜ Nearer (now (table .entry)) (now (heading .entry)) (first .entry) (second .entry) r ⌝ }
 {
+    match choose(table, heading, first, second) {
+        Choice::Neither => &first[..0],
+        Choice::First => first,
+        Choice::Second => second,
+    }
+}
+
+// Which candidate is nearer, told without handing it back.
+pub fn choose(table: &[u8], heading: &[u16], first: &[u16], second: &[u16]) -> Choice
+    ensures { λ r. ⌜ Choose (now (table .entry)) (now (heading .entry)) (now (first .entry)) (now (second .entry)) r ⌝ }
+{
     if !accepts_headings(table, heading, first, second) {
-        return &first[..0];
+        return Choice::Neither;
     }
     if heading_degree(table, heading, first) < heading_degree(table, heading, second) {
-        second
+        Choice::Second
     } else {
-        first
+        Choice::First
     }
 }
 

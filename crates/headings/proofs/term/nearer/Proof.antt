@@ -1,50 +1,44 @@
--- Where nothing is refused the degrees choose, and what is handed back is the reference that was lent.
+-- What was chosen is handed back: the reference itself that was lent, or the empty part.
 use borrow.Author.Needs.{needs}
-use borrow.Author.Tests.{not-true, not-false}
-use mathlib.Core.Path.{_≡_, refl, sym, _∙_}
-use mathlib.Core.Bool.{true}
+use mathlib.Core.Path.{_≡_, refl, sym, ap, _∙_}
 use native.Mathlib.Omega.{arith}
-use denote.Ref.{now}
-use Rattle.meaning.specs.Refusals.{first}
-use Rattle.meaning.specs.Calls.{nearerRows}
-use Rattle.headings.specs.Terms.{accepted}
-use Rattle.headings.proofs.Lists.{all-sound, neither-nearer, first-nearer, second-nearer}
+use Rattle.headings.specs.Terms.{saidChoice}
 use Rattle.headings.proofs.term.nearer.Statement.{statement}
 use Rattle.headings.proofs.term.nearer.Tie as tie
 
--- past the first test all is accepted
-taken : (c : tie.Else1) → let a = c .before .before .before .before .before .before .args in accepted (first (nearerRows (now (a .table)) (now (a .heading)) (now (a .first)) (now (a .second)))) ≡ true
-taken c = sym (c .before .accepts-headings .ensures) ∙ not-false _ (c .if1 .left)
+choose-requires : tie.Need-choose-requires
+choose-requires c κs = search needs
 
-accepts-headings-requires : tie.Need-accepts-headings-requires
-accepts-headings-requires c κs = search needs
+enum-told : tie.Need-enum-told
+enum-told c = search needs
 
 slice-aggregate-result : tie.Need-slice-aggregate-result
 slice-aggregate-result c = search needs
 
+enum-told-2 : tie.Need-enum-told-2
+enum-told-2 c = search needs
+
+enum-told-3 : tie.Need-enum-told-3
+enum-told-3 c = search needs
+
 returns : tie.Need-returns
-returns c = rw (neither-nearer _ _ _ _ (sym (c .before .before .accepts-headings .ensures) ∙ not-true _ (c .before .if1 .taken))) (record { holds = refl; block = refl; offset = omega arith })
-
-heading-degree-requires : tie.Need-heading-degree-requires
-heading-degree-requires c κs = let s = all-sound _ _ _ _ (taken c) in (s .0, s .1, s .2)
-
-heading-degree-requires-2 : tie.Need-heading-degree-requires-2
-heading-degree-requires-2 c κs = let s = all-sound _ _ _ _ (taken (c .before)) in (s .0, s .1, s .3)
+returns c = rw (sym (c .before .before .before .choose .ensures) ∙ ap saidChoice (c .before .enum-told .given .1)) (record { holds = refl; block = refl; offset = omega arith })
 
 returns-2 : tie.Need-returns-2
-returns-2 c = rw (second-nearer _ _ _ _ (taken (c .before .before .before)) (omega arith)) refl
+returns-2 c = rw (sym (c .before .before .choose .ensures) ∙ ap saidChoice (c .enum-told2 .given .1)) refl
 
 returns-3 : tie.Need-returns-3
-returns-3 c = rw (first-nearer _ _ _ _ (taken (c .before .before .before)) (omega arith)) refl
+returns-3 c = rw (sym (c .before .before .choose .ensures) ∙ ap saidChoice (c .enum-told3 .given .1)) refl
 
 pub nearer-spec : {M : Type 1} → statement M
 nearer-spec =
     tie.close
     (tie.spec
-    accepts-headings-requires
+    choose-requires
+    enum-told
     slice-aggregate-result
+    enum-told-2
+    enum-told-3
     returns
-    heading-degree-requires
-    heading-degree-requires-2
     returns-2
     returns-3)
