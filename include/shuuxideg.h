@@ -1,0 +1,147 @@
+/*
+ * Shuuxideg: which headings a pattern matches within a cut, and with which symbols. For C11 and C++ on x86-64 Linux; link libcapi.a, which
+ * `rt staticlib capi` writes.
+ *
+ * WHAT THE CALLS ARE ABOUT
+ *
+ * A table has up to 256 symbols, numbered from 0. Each has an arity, the number of arguments that it takes, 0 to 8. A degree says how near two
+ * symbols are, in thousandths: a symbol has 1000 with itself, two symbols that the table lists as a pair have the pair's degree, in either order,
+ * and any other two have 0. Nearness is not passed on: that a is near b and b near c says nothing of a and c. A table is lent as the bytes of a
+ * table file, which shx_write_table makes and docs/FORMATS.md describes.
+ *
+ * A term is a list of 16-bit nodes in preorder: a symbol, then its arguments one after the other. A node below the number of symbols is a symbol;
+ * 32768 to 32799 are the variables 0 to 31; any other number is neither. A term has 1 to 1024 nodes and is at most 64 deep (one node alone has
+ * depth 1). A heading is a term without variables, a pattern may have some.
+ *
+ * The degree of two headings is that of their first symbols where those differ in arity or have degree 0; otherwise the least of that degree and
+ * the degrees of their arguments, first with first and so on.
+ *
+ * WHAT A CALL RETURNS
+ *
+ * Most calls return one uint32_t. 0: accepted. Otherwise the low 16 bits are the number of the refusal and the high 16 bits the place:
+ * SHX_NUMBER(r) and SHX_PLACE(r). What else a call gives it stores through its pointers; a call that is refused leaves them untouched, but for
+ * shx_match, as said there. The tests are made in the order of this table, and the first that holds is given (1 twice: a file shorter than a
+ * header is refused by 1 before all else, wrong offsets or lengths after 2).
+ *
+ *   No.  Refused because                                                      Place                              By
+ *    1   the table has under 10 bytes; or an offset or a length in its        0                                  every call with a table
+ *        header is not what its counts ask for; or it has another length
+ *    2   it has no symbol or over 256, or over 8192 pairs                     0                                  those; shx_write_table
+ *    3   an arity is above 8                                                  the first such symbol              those; shx_write_table
+ *    4   a pair's lower symbol is not below its higher one, the higher is     the first such pair, from 0        those; shx_write_table
+ *        no symbol, their arities differ, the degree is not 1 to 1000, or
+ *        the pair does not come after the one before it
+ *    5   the cut is not 1 to 1000                                             0                                  shx_match
+ *    6   the pattern is no term; or the first heading is no heading           the fault, see below               shx_match; shx_heading_degree
+ *    7   the heading, or the second one, is no heading                        the fault, see below               shx_match; shx_heading_degree
+ *    8   spans or sets are too short; the output is shorter than the file     0                                  shx_match; shx_write_table
+ *    9   a symbol of the pattern is not near enough to the one it faces       the first such node's index        shx_match
+ *   10   no one term is near enough to all that faces some variable           the least such variable's number   shx_match
+ *   11   more positions than the heading has nodes (this never happens)       0                                  shx_match
+ *   14   no symbol has that number, or no pair that index                     0                                  shx_arity; shx_pair
+ *
+ * The place of a fault in a list of nodes: 1024 where the list has more nodes than that; otherwise the first index at which the term had already
+ * ended, a node stands that may not stand there, or the depth would be 65; and the list's length where the term is not complete.
+ *
+ * WHAT A CALLER OWES
+ *
+ * - A pointer and the count after it lend that many elements (not bytes): all readable, and those behind a pointer to non-const also writable,
+ *   until the call returns. A pointer to a single number lends that number.
+ * - No pointer is null, not even that of an empty list; there any address will do that is aligned for the element, and nothing is read from it.
+ * - Every pointer is aligned as its C type asks.
+ * - What a call may write (all that is not const) overlaps nothing else that is lent to that call. Lists that are only read may overlap.
+ * - Nothing else writes to what is lent while the call runs.
+ *
+ * Beyond that nothing is asked: every table, list and number is accepted or refused as above. The calls keep nothing, allocate nothing and can run
+ * in several threads at once. What each does for every input is proved (crates/capi/specs); that a C caller keeps the list above is not.
+ */
+#ifndef SHUUXIDEG_H
+#define SHUUXIDEG_H
+
+#include <stddef.h>
+#include <stdint.h>
+
+/* the number and the place of what a call returned; number 0: accepted */
+#define SHX_NUMBER(r) ((uint16_t)((r) & 0xFFFFu))
+#define SHX_PLACE(r) ((uint16_t)((r) >> 16))
+
+/* the node of variable v, 0 to 31 */
+#define SHX_VARIABLE(v) ((uint16_t)(32768u + (v)))
+
+/* how many numbers spans has, and how many words of sets a node of the heading takes */
+#define SHX_SPANS 64
+#define SHX_SET_WORDS 4
+
+/* whether symbol k is in the set at position p */
+#define SHX_HAS(sets, p, k) (((sets)[SHX_SET_WORDS * (size_t)(p) + (k) / 64] >> ((k) % 64)) & 1u)
+
+#ifdef __cplusplus
+extern "C" {
+#endif
+
+/* A pair as shx_write_table takes it: two symbols, the lower first, and their degree. */
+struct shx_pair_record {
+    uint16_t lower;
+    uint16_t higher;
+    uint16_t degree;
+};
+
+/* Is this a table? Refusals 1 to 4. */
+uint32_t shx_table(const uint8_t *table, size_t table_len);
+
+/* Stores the degree of two symbol numbers; a number that is no symbol has degree 0 with every number, itself too. Refusals 1 to 4. */
+uint32_t shx_symbol_degree(const uint8_t *table, size_t table_len, uint16_t a, uint16_t b, uint16_t *degree);
+
+/* Stores how many arguments a symbol takes. Refusals 1 to 4 and 14. */
+uint32_t shx_arity(const uint8_t *table, size_t table_len, uint16_t symbol, uint8_t *arity);
+
+/* Stores the pair at an index of the table's list, counted from 0. Refusals 1 to 4 and 14. */
+uint32_t shx_pair(const uint8_t *table, size_t table_len, uint16_t index, uint16_t *lower, uint16_t *higher, uint16_t *degree);
+
+/* Stores the degree of two headings. Refusals 1 to 4, 6 for the first heading and 7 for the second. */
+uint32_t shx_heading_degree(
+    const uint8_t *table, size_t table_len, const uint16_t *first, size_t first_len, const uint16_t *second, size_t second_len, uint16_t *degree);
+
+/*
+ * Returns how many nodes the subterm has that starts at an index of a term; it is term[index] and the nodes behind it. 0 where the table or the
+ * term is refused or no node has that index: the empty part at the list's start. Variables are permitted.
+ */
+size_t shx_subterm(const uint8_t *table, size_t table_len, const uint16_t *term, size_t term_len, size_t index);
+
+/*
+ * Returns which of two candidates has the higher degree with a heading: 1 the first, also where both have the same degree, even 0; 2 the second;
+ * 0 where the table or one of the three headings is refused.
+ */
+uint8_t shx_nearer(
+    const uint8_t *table, size_t table_len, const uint16_t *heading, size_t heading_len, const uint16_t *first, size_t first_len, const uint16_t *second,
+    size_t second_len);
+
+/*
+ * Every way to fill the pattern's variables so that it has at least degree `cut` with the heading. Refusals 1 to 11; 9 and 10 mean that there is
+ * none.
+ *
+ * Accepted: *lowest and *highest are the lowest and the highest degree that is reached, and
+ *   spans   (at least SHX_SPANS numbers) tells, for variable v, its first position spans[2 * v] and how many positions it has, spans[2 * v + 1]:
+ *           one for each node of the terms that may stand for it, in preorder. A variable with 0 positions is not in the pattern.
+ *   sets    (at least SHX_SET_WORDS words for each node of the heading) has at position p the symbols that may stand there, symbol k as bit k % 64
+ *           of word 4 * p + k / 64: SHX_HAS(sets, p, k).
+ *   Choosing one symbol from each set of each variable gives all the ways, and each choice is one. Behind what is used both buffers are 0.
+ *
+ * Refused: *lowest and *highest are 0. 1 to 8 leave spans and sets as they were, 9 to 11 fill both with 0.
+ */
+uint32_t shx_match(
+    const uint8_t *table, size_t table_len, const uint16_t *pattern, size_t pattern_len, const uint16_t *heading, size_t heading_len, uint16_t cut,
+    uint16_t *spans, size_t spans_len, uint64_t *sets, size_t sets_len, uint16_t *lowest, uint16_t *highest);
+
+/*
+ * Writes the table file of so many symbols, by their arities, and so many pairs to the front of out, and stores its length, 10 + symbols +
+ * 6 * count; what out has behind it stays. Pairs rise by lower symbol, then by higher. Refusals 2, 3, 4 and 8, which change nothing.
+ */
+uint32_t shx_write_table(
+    const uint8_t *arities, size_t symbols, const struct shx_pair_record *pairs, size_t count, uint8_t *out, size_t out_len, size_t *total);
+
+#ifdef __cplusplus
+}
+#endif
+
+#endif
