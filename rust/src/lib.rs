@@ -1,0 +1,42 @@
+//! Matching of name headings modulo proximity, twice: [`proved`] calls the proved library through its C interface, [`plain`] is an
+//! independent implementation in plain Rust, for comparison. Both modules have the same functions, with the same signatures.
+//!
+//! `docs/FORMATS.md` of the repository says what a table, a term and the buffers of a match are, and lists the refusals.
+
+pub mod ffi;
+pub mod plain;
+pub mod proved;
+
+/// Why a call was refused, and where.
+#[derive(Clone, Copy, Debug, PartialEq, Eq)]
+pub struct Refusal {
+    pub number: u16,
+    pub place: u16,
+}
+
+/// Two symbols that a table lists, and how near they are, in thousandths. The lower symbol number comes first.
+#[repr(C)]
+#[derive(Clone, Copy, Debug, PartialEq, Eq)]
+pub struct Pair {
+    pub lower: u16,
+    pub higher: u16,
+    pub degree: u16,
+}
+
+/// The lowest and the highest degree that a matcher reaches.
+#[derive(Clone, Copy, Debug, PartialEq, Eq)]
+pub struct Degrees {
+    pub lowest: u16,
+    pub highest: u16,
+}
+
+/// The node of variable 0; variable v is this and v.
+pub const VARIABLE: u16 = 32768;
+/// How many variables there are.
+pub const VARIABLES: usize = 32;
+/// The most nodes that a term may have.
+pub const MAX_NODES: usize = 1024;
+/// The length that the spans of a match must have at least.
+pub const SPANS: usize = 2 * VARIABLES;
+/// How many words of a match's sets each node of the heading asks for.
+pub const WORDS: usize = 4;

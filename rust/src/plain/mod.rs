@@ -1,0 +1,102 @@
+//! The calls in plain Rust, written from the rules of the formats alone: nothing here is taken over from the proved library, and both
+//! are compared by the tests. Safe code, no allocation; scratch is on the stack, in classes by size, so that a small call clears little.
+
+mod matching;
+mod table;
+mod terms;
+mod writer;
+
+use crate::{Degrees, Pair, Refusal};
+use table::Table;
+use terms::{check_heading, check_pattern};
+
+pub use writer::write_table;
+
+fn refuse<T>(number: u16, place: usize) -> Result<T, Refusal> {
+    Err(Refusal { number, place: place as u16 })
+}
+
+/// Is this a table? Refusals 1 to 4.
+pub fn check_table(table: &[u8]) -> Result<(), Refusal> {
+    Table::read(table).map(|_| ())
+}
+
+/// The degree of two symbol numbers; 0 if one is not in the table. Refusals 1 to 4.
+pub fn symbol_degree(table: &[u8], a: u16, b: u16) -> Result<u16, Refusal> {
+    let table = Table::read(table)?;
+    let known = table.arity(a).is_some() && table.arity(b).is_some();
+    Ok(if known { table.degree(a, b) } else { 0 })
+}
+
+/// The arity of a symbol. Refusals 1 to 4 and 14.
+pub fn arity(table: &[u8], symbol: u16) -> Result<u8, Refusal> {
+    Table::read(table)?.arity(symbol).map_or_else(|| refuse(14, 0), Ok)
+}
+
+/// The pair at an index. Refusals 1 to 4 and 14.
+pub fn pair(table: &[u8], index: u16) -> Result<Pair, Refusal> {
+    Table::read(table)?.pair(usize::from(index)).map_or_else(|| refuse(14, 0), Ok)
+}
+
+/// The degree of two headings. Refusals 1 to 4, 6 for the first and 7 for the second.
+pub fn heading_degree(table: &[u8], first: &[u16], second: &[u16]) -> Result<u16, Refusal> {
+    let table = Table::read(table)?;
+    check_heading(&table, first).or_else(|place| refuse(6, place))?;
+    check_heading(&table, second).or_else(|place| refuse(7, place))?;
+    Ok(terms::degree(&table, first, second))
+}
+
+/// The subterm at an index, as that part of the term; the empty part at the term's start if the table or the term is refused or no
+/// node has the index.
+pub fn subterm<'a>(table: &[u8], term: &'a [u16], index: usize) -> &'a [u16] {
+    match Table::read(table) {
+        Ok(table) if index < term.len() && check_pattern(&table, term).is_ok() => {
+            &term[index..index + terms::nodes_at(&table, term, index)]
+        }
+        _ => &term[..0],
+    }
+}
+
+/// The candidate that is nearer to the heading, whole, the first if both are as near; the empty part at the first one's start if the
+/// table or one of the three is refused.
+pub fn nearer<'a>(table: &[u8], heading: &[u16], first: &'a [u16], second: &'a [u16]) -> &'a [u16] {
+    let refused = &first[..0];
+    let table = match Table::read(table) {
+        Ok(table) => table,
+        Err(_) => return refused,
+    };
+    if [heading, first, second].iter().any(|nodes| check_heading(&table, nodes).is_err()) {
+        return refused;
+    }
+    if terms::degree(&table, heading, second) > terms::degree(&table, heading, first) {
+        second
+    } else {
+        first
+    }
+}
+
+/// All terms for the pattern's variables that bring it within the cut of the heading, in spans and sets. Refusals 1 to 11: 1 to 8 leave
+/// both buffers as they were, 9 to 11 fill them with 0.
+pub fn match_heading(
+    table: &[u8],
+    pattern: &[u16],
+    heading: &[u16],
+    cut: u16,
+    spans: &mut [u16],
+    sets: &mut [u64],
+) -> Result<Degrees, Refusal> {
+    let table = Table::read(table)?;
+    if !(1..=table::TOP).contains(&cut) {
+        return refuse(5, 0);
+    }
+    check_pattern(&table, pattern).or_else(|place| refuse(6, place))?;
+    check_heading(&table, heading).or_else(|place| refuse(7, place))?;
+    if spans.len() < crate::SPANS || sets.len() < crate::WORDS * heading.len() {
+        return refuse(8, 0);
+    }
+    matching::Question { table: &table, pattern, heading, cut }.answer(spans, sets).map_err(|refusal| {
+        spans.fill(0);
+        sets.fill(0);
+        refusal
+    })
+}

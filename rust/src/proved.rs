@@ -1,0 +1,147 @@
+//! The proved library: each function hands what it was lent to the C interface, and its answer back.
+//!
+//! What makes the calls sound is that the library reads and writes nothing but the parts that it is lent by pointer and length, which is
+//! proved of it, and that a slice is such a part.
+
+use crate::ffi;
+use crate::{Degrees, Pair, Refusal};
+
+fn accepted(answer: u32) -> Result<(), Refusal> {
+    match answer as u16 {
+        0 => Ok(()),
+        number => Err(Refusal { number, place: (answer >> 16) as u16 }),
+    }
+}
+
+/// Is this a table? Refusals 1 to 4.
+pub fn check_table(table: &[u8]) -> Result<(), Refusal> {
+    accepted(unsafe { ffi::shx_table(table.as_ptr(), table.len()) })
+}
+
+/// The degree of two symbol numbers; 0 if one is not in the table. Refusals 1 to 4.
+pub fn symbol_degree(table: &[u8], a: u16, b: u16) -> Result<u16, Refusal> {
+    let mut degree = 0;
+    accepted(unsafe { ffi::shx_symbol_degree(table.as_ptr(), table.len(), a, b, &mut degree) })?;
+    Ok(degree)
+}
+
+/// The arity of a symbol. Refusals 1 to 4 and 14.
+pub fn arity(table: &[u8], symbol: u16) -> Result<u8, Refusal> {
+    let mut arity = 0;
+    accepted(unsafe { ffi::shx_arity(table.as_ptr(), table.len(), symbol, &mut arity) })?;
+    Ok(arity)
+}
+
+/// The pair at an index. Refusals 1 to 4 and 14.
+pub fn pair(table: &[u8], index: u16) -> Result<Pair, Refusal> {
+    let mut pair = Pair { lower: 0, higher: 0, degree: 0 };
+    accepted(unsafe {
+        ffi::shx_pair(
+            table.as_ptr(),
+            table.len(),
+            index,
+            &mut pair.lower,
+            &mut pair.higher,
+            &mut pair.degree,
+        )
+    })?;
+    Ok(pair)
+}
+
+/// The degree of two headings. Refusals 1 to 4, 6 for the first and 7 for the second.
+pub fn heading_degree(table: &[u8], first: &[u16], second: &[u16]) -> Result<u16, Refusal> {
+    let mut degree = 0;
+    accepted(unsafe {
+        ffi::shx_heading_degree(
+            table.as_ptr(),
+            table.len(),
+            first.as_ptr(),
+            first.len(),
+            second.as_ptr(),
+            second.len(),
+            &mut degree,
+        )
+    })?;
+    Ok(degree)
+}
+
+/// The subterm at an index, as that part of the term; the empty part at the term's start if the table or the term is refused or no
+/// node has the index.
+pub fn subterm<'a>(table: &[u8], term: &'a [u16], index: usize) -> &'a [u16] {
+    let nodes = unsafe { ffi::shx_subterm(table.as_ptr(), table.len(), term.as_ptr(), term.len(), index) };
+    if nodes == 0 {
+        &term[..0]
+    } else {
+        &term[index..index + nodes]
+    }
+}
+
+/// The candidate that is nearer to the heading, whole, the first if both are as near; the empty part at the first one's start if the
+/// table or one of the three is refused.
+pub fn nearer<'a>(table: &[u8], heading: &[u16], first: &'a [u16], second: &'a [u16]) -> &'a [u16] {
+    let which = unsafe {
+        ffi::shx_nearer(
+            table.as_ptr(),
+            table.len(),
+            heading.as_ptr(),
+            heading.len(),
+            first.as_ptr(),
+            first.len(),
+            second.as_ptr(),
+            second.len(),
+        )
+    };
+    match which {
+        1 => first,
+        2 => second,
+        _ => &first[..0],
+    }
+}
+
+/// All terms for the pattern's variables that bring it within the cut of the heading, in spans and sets. Refusals 1 to 11: 1 to 8 leave
+/// both buffers as they were, 9 to 11 fill them with 0.
+pub fn match_heading(
+    table: &[u8],
+    pattern: &[u16],
+    heading: &[u16],
+    cut: u16,
+    spans: &mut [u16],
+    sets: &mut [u64],
+) -> Result<Degrees, Refusal> {
+    let (mut lowest, mut highest) = (0, 0);
+    accepted(unsafe {
+        ffi::shx_match(
+            table.as_ptr(),
+            table.len(),
+            pattern.as_ptr(),
+            pattern.len(),
+            heading.as_ptr(),
+            heading.len(),
+            cut,
+            spans.as_mut_ptr(),
+            spans.len(),
+            sets.as_mut_ptr(),
+            sets.len(),
+            &mut lowest,
+            &mut highest,
+        )
+    })?;
+    Ok(Degrees { lowest, highest })
+}
+
+/// Writes the table file and returns its length; bytes behind it stay. Refusals 2, 3, 4 and 8, which write nothing.
+pub fn write_table(arities: &[u8], pairs: &[Pair], out: &mut [u8]) -> Result<usize, Refusal> {
+    let mut total = 0;
+    accepted(unsafe {
+        ffi::shx_write_table(
+            arities.as_ptr(),
+            arities.len(),
+            pairs.as_ptr(),
+            pairs.len(),
+            out.as_mut_ptr(),
+            out.len(),
+            &mut total,
+        )
+    })?;
+    Ok(total)
+}
