@@ -14,6 +14,15 @@ pub struct Refusal {
     pub place: u16,
 }
 
+/// What a call that can be refused answers.
+pub type Answer<T> = Result<T, Refusal>;
+
+/// The type of `match_heading` in both modules.
+pub type MatchHeading = fn(&[u8], &[u16], &[u16], u16, &mut [u16], &mut [u64]) -> Answer<Degrees>;
+
+/// The type of `write_table` in both modules.
+pub type WriteTable = fn(&[u8], &[Pair], &mut [u8]) -> Answer<usize>;
+
 /// Two symbols that a table lists, and how near they are, in thousandths. The lower symbol number comes first.
 #[repr(C)]
 #[derive(Clone, Copy, Debug, PartialEq, Eq)]

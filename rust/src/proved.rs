@@ -4,9 +4,9 @@
 //! proved of it, and that a slice is such a part.
 
 use crate::ffi;
-use crate::{Degrees, Pair, Refusal};
+use crate::{Answer, Degrees, Pair, Refusal};
 
-fn accepted(answer: u32) -> Result<(), Refusal> {
+fn accepted(answer: u32) -> Answer<()> {
     match answer as u16 {
         0 => Ok(()),
         number => Err(Refusal { number, place: (answer >> 16) as u16 }),
@@ -14,42 +14,35 @@ fn accepted(answer: u32) -> Result<(), Refusal> {
 }
 
 /// Is this a table? Refusals 1 to 4.
-pub fn check_table(table: &[u8]) -> Result<(), Refusal> {
+pub fn check_table(table: &[u8]) -> Answer<()> {
     accepted(unsafe { ffi::shx_table(table.as_ptr(), table.len()) })
 }
 
 /// The degree of two symbol numbers; 0 if one is not in the table. Refusals 1 to 4.
-pub fn symbol_degree(table: &[u8], a: u16, b: u16) -> Result<u16, Refusal> {
+pub fn symbol_degree(table: &[u8], a: u16, b: u16) -> Answer<u16> {
     let mut degree = 0;
     accepted(unsafe { ffi::shx_symbol_degree(table.as_ptr(), table.len(), a, b, &mut degree) })?;
     Ok(degree)
 }
 
 /// The arity of a symbol. Refusals 1 to 4 and 14.
-pub fn arity(table: &[u8], symbol: u16) -> Result<u8, Refusal> {
+pub fn arity(table: &[u8], symbol: u16) -> Answer<u8> {
     let mut arity = 0;
     accepted(unsafe { ffi::shx_arity(table.as_ptr(), table.len(), symbol, &mut arity) })?;
     Ok(arity)
 }
 
 /// The pair at an index. Refusals 1 to 4 and 14.
-pub fn pair(table: &[u8], index: u16) -> Result<Pair, Refusal> {
+pub fn pair(table: &[u8], index: u16) -> Answer<Pair> {
     let mut pair = Pair { lower: 0, higher: 0, degree: 0 };
     accepted(unsafe {
-        ffi::shx_pair(
-            table.as_ptr(),
-            table.len(),
-            index,
-            &mut pair.lower,
-            &mut pair.higher,
-            &mut pair.degree,
-        )
+        ffi::shx_pair(table.as_ptr(), table.len(), index, &mut pair.lower, &mut pair.higher, &mut pair.degree)
     })?;
     Ok(pair)
 }
 
 /// The degree of two headings. Refusals 1 to 4, 6 for the first and 7 for the second.
-pub fn heading_degree(table: &[u8], first: &[u16], second: &[u16]) -> Result<u16, Refusal> {
+pub fn heading_degree(table: &[u8], first: &[u16], second: &[u16]) -> Answer<u16> {
     let mut degree = 0;
     accepted(unsafe {
         ffi::shx_heading_degree(
@@ -107,7 +100,7 @@ pub fn match_heading(
     cut: u16,
     spans: &mut [u16],
     sets: &mut [u64],
-) -> Result<Degrees, Refusal> {
+) -> Answer<Degrees> {
     let (mut lowest, mut highest) = (0, 0);
     accepted(unsafe {
         ffi::shx_match(
@@ -130,7 +123,7 @@ pub fn match_heading(
 }
 
 /// Writes the table file and returns its length; bytes behind it stay. Refusals 2, 3, 4 and 8, which write nothing.
-pub fn write_table(arities: &[u8], pairs: &[Pair], out: &mut [u8]) -> Result<usize, Refusal> {
+pub fn write_table(arities: &[u8], pairs: &[Pair], out: &mut [u8]) -> Answer<usize> {
     let mut total = 0;
     accepted(unsafe {
         ffi::shx_write_table(

@@ -1,45 +1,47 @@
 //! The calls in plain Rust, written from the rules of the formats alone: nothing here is taken over from the proved library, and both
 //! are compared by the tests. Safe code, no allocation; scratch is on the stack, in classes by size, so that a small call clears little.
 
+mod facing;
 mod matching;
+mod near;
 mod table;
 mod terms;
 mod writer;
 
-use crate::{Degrees, Pair, Refusal};
+use crate::{Answer, Degrees, Pair, Refusal};
 use table::Table;
 use terms::{check_heading, check_pattern};
 
 pub use writer::write_table;
 
-fn refuse<T>(number: u16, place: usize) -> Result<T, Refusal> {
+fn refuse<T>(number: u16, place: usize) -> Answer<T> {
     Err(Refusal { number, place: place as u16 })
 }
 
 /// Is this a table? Refusals 1 to 4.
-pub fn check_table(table: &[u8]) -> Result<(), Refusal> {
+pub fn check_table(table: &[u8]) -> Answer<()> {
     Table::read(table).map(|_| ())
 }
 
 /// The degree of two symbol numbers; 0 if one is not in the table. Refusals 1 to 4.
-pub fn symbol_degree(table: &[u8], a: u16, b: u16) -> Result<u16, Refusal> {
+pub fn symbol_degree(table: &[u8], a: u16, b: u16) -> Answer<u16> {
     let table = Table::read(table)?;
     let known = table.arity(a).is_some() && table.arity(b).is_some();
     Ok(if known { table.degree(a, b) } else { 0 })
 }
 
 /// The arity of a symbol. Refusals 1 to 4 and 14.
-pub fn arity(table: &[u8], symbol: u16) -> Result<u8, Refusal> {
+pub fn arity(table: &[u8], symbol: u16) -> Answer<u8> {
     Table::read(table)?.arity(symbol).map_or_else(|| refuse(14, 0), Ok)
 }
 
 /// The pair at an index. Refusals 1 to 4 and 14.
-pub fn pair(table: &[u8], index: u16) -> Result<Pair, Refusal> {
+pub fn pair(table: &[u8], index: u16) -> Answer<Pair> {
     Table::read(table)?.pair(usize::from(index)).map_or_else(|| refuse(14, 0), Ok)
 }
 
 /// The degree of two headings. Refusals 1 to 4, 6 for the first and 7 for the second.
-pub fn heading_degree(table: &[u8], first: &[u16], second: &[u16]) -> Result<u16, Refusal> {
+pub fn heading_degree(table: &[u8], first: &[u16], second: &[u16]) -> Answer<u16> {
     let table = Table::read(table)?;
     check_heading(&table, first).or_else(|place| refuse(6, place))?;
     check_heading(&table, second).or_else(|place| refuse(7, place))?;
@@ -84,7 +86,7 @@ pub fn match_heading(
     cut: u16,
     spans: &mut [u16],
     sets: &mut [u64],
-) -> Result<Degrees, Refusal> {
+) -> Answer<Degrees> {
     let table = Table::read(table)?;
     if !(1..=table::TOP).contains(&cut) {
         return refuse(5, 0);

@@ -1,7 +1,7 @@
 //! The table file: its check, in one pass, and what is looked up in it.
 
 use super::refuse;
-use crate::{Pair, Refusal};
+use crate::{Answer, Pair};
 
 /// The highest degree.
 pub const TOP: u16 = 1000;
@@ -20,7 +20,7 @@ pub struct Table<'a> {
     pairs: &'a [u8],
 }
 
-pub fn check_counts(symbols: usize, pairs: usize) -> Result<(), Refusal> {
+pub fn check_counts(symbols: usize, pairs: usize) -> Answer<()> {
     if (1..=MAX_SYMBOLS).contains(&symbols) && pairs <= MAX_PAIRS {
         Ok(())
     } else {
@@ -28,7 +28,7 @@ pub fn check_counts(symbols: usize, pairs: usize) -> Result<(), Refusal> {
     }
 }
 
-pub fn check_arities(arities: &[u8]) -> Result<(), Refusal> {
+pub fn check_arities(arities: &[u8]) -> Answer<()> {
     // The greatest is found many at a time; which one is at fault is only looked for if there is one.
     let greatest = arities.iter().fold(0, |greatest, &arity| arity.max(greatest));
     if greatest <= MAX_ARITY {
@@ -43,27 +43,32 @@ fn key(lower: u16, higher: u16) -> u32 {
     u32::from(lower) << 16 | u32::from(higher)
 }
 
-#[inline]
-fn is_sound(arities: &[u8], pair: Pair) -> bool {
-    let (lower, higher) = (usize::from(pair.lower), usize::from(pair.higher));
-    lower < higher
-        && higher < arities.len()
-        && arities[lower] == arities[higher]
-        && (1..=TOP).contains(&pair.degree)
+/// The rule for pairs: each is sound by itself and comes after the one before it.
+pub struct Rising<'a> {
+    arities: &'a [u8],
+    before: u32,
 }
 
-/// Each pair has to be sound by itself and to come after the one before it.
-#[inline(always)] // so that the pairs are read as their source allows
-pub fn check_pairs(arities: &[u8], pairs: impl Iterator<Item = Pair>) -> Result<(), Refusal> {
-    let mut before = 0; // below the key of every sound pair
-    for (index, pair) in pairs.enumerate() {
+impl<'a> Rising<'a> {
+    pub fn new(arities: &'a [u8]) -> Self {
+        Rising { arities, before: 0 } // below the key of every sound pair
+    }
+
+    /// Takes the next pair, or refuses it at its index.
+    #[inline]
+    pub fn take(&mut self, index: usize, pair: &Pair) -> Answer<()> {
         let key = key(pair.lower, pair.higher);
-        if key <= before || !is_sound(arities, pair) {
+        let (lower, higher) = (usize::from(pair.lower), usize::from(pair.higher));
+        let sound = lower < higher
+            && higher < self.arities.len()
+            && self.arities[lower] == self.arities[higher]
+            && (1..=TOP).contains(&pair.degree);
+        if key <= self.before || !sound {
             return refuse(4, index);
         }
-        before = key;
+        self.before = key;
+        Ok(())
     }
-    Ok(())
 }
 
 #[inline]
@@ -78,7 +83,7 @@ fn pair_of(bytes: &[u8]) -> Pair {
 }
 
 impl<'a> Table<'a> {
-    pub fn read(file: &'a [u8]) -> Result<Self, Refusal> {
+    pub fn read(file: &'a [u8]) -> Answer<Self> {
         if file.len() < HEADER {
             return refuse(1, 0);
         }
@@ -91,7 +96,10 @@ impl<'a> Table<'a> {
         }
         let (arities, pairs) = file[HEADER..].split_at(symbols);
         check_arities(arities)?;
-        check_pairs(arities, pairs.chunks_exact(PAIR).map(pair_of))?;
+        let mut rising = Rising::new(arities);
+        for (index, bytes) in pairs.chunks_exact(PAIR).enumerate() {
+            rising.take(index, &pair_of(bytes))?;
+        }
         Ok(Table { arities, pairs })
     }
 

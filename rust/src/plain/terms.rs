@@ -9,7 +9,7 @@ const MAX_DEPTH: usize = 64;
 #[inline]
 pub fn variable(node: u16) -> Option<usize> {
     let number = usize::from(node.wrapping_sub(VARIABLE));
-    (number < VARIABLES).then(|| number)
+    (number < VARIABLES).then_some(number)
 }
 
 /// A term without variables, or the place of the first fault.

@@ -1,14 +1,17 @@
 //! The table writer.
 
 use super::refuse;
-use super::table::{check_arities, check_counts, check_pairs, HEADER, PAIR};
-use crate::{Pair, Refusal};
+use super::table::{check_arities, check_counts, Rising, HEADER, PAIR};
+use crate::{Answer, Pair};
 
 /// Writes the table file and returns its length; bytes behind it stay. Refusals 2, 3, 4 and 8, which write nothing.
-pub fn write_table(arities: &[u8], pairs: &[Pair], out: &mut [u8]) -> Result<usize, Refusal> {
+pub fn write_table(arities: &[u8], pairs: &[Pair], out: &mut [u8]) -> Answer<usize> {
     check_counts(arities.len(), pairs.len())?;
     check_arities(arities)?;
-    check_pairs(arities, pairs.iter().copied())?;
+    let mut rising = Rising::new(arities);
+    for (index, pair) in pairs.iter().enumerate() {
+        rising.take(index, pair)?;
+    }
     let pairs_at = HEADER + arities.len();
     let total = pairs_at + PAIR * pairs.len();
     let out = match out.get_mut(..total) {
@@ -22,9 +25,8 @@ pub fn write_table(arities: &[u8], pairs: &[Pair], out: &mut [u8]) -> Result<usi
     }
     front[HEADER..].copy_from_slice(arities);
     for (bytes, pair) in back.chunks_exact_mut(PAIR).zip(pairs) {
-        bytes[..2].copy_from_slice(&pair.lower.to_le_bytes());
-        bytes[2..4].copy_from_slice(&pair.higher.to_le_bytes());
-        bytes[4..].copy_from_slice(&pair.degree.to_le_bytes());
+        let numbers = u64::from(pair.lower) | u64::from(pair.higher) << 16 | u64::from(pair.degree) << 32;
+        bytes.copy_from_slice(&numbers.to_le_bytes()[..PAIR]);
     }
     Ok(total)
 }

@@ -1,7 +1,7 @@
 //! One question to both implementations: equal answers, equal buffers, guards and inputs as they were.
 
 use crate::lent::Lent;
-use shuuxideg::{plain, proved, Pair};
+use shuuxideg::{plain, proved, MatchHeading, Pair, WriteTable};
 use std::fmt::Debug;
 
 const GUARD: u16 = 0xa55a;
@@ -83,7 +83,7 @@ impl Asker {
         assert!(heading.guarded() && both.guarded() && (one, two) == (first, second));
     }
 
-    /// Whether it was a match. Both buffers are compared whole.
+    /// The number of the refusal, 0 for a match. Both buffers are compared whole.
     pub fn match_heading(
         &mut self,
         pattern: &[u16],
@@ -91,7 +91,7 @@ impl Asker {
         cut: u16,
         spans_len: usize,
         sets_len: usize,
-    ) -> bool {
+    ) -> usize {
         let spans = nodes(&(0..spans_len).map(|i| 0x1234 ^ i as u16).collect::<Vec<u16>>());
         let sets = Lent::new(&(0..sets_len).map(|i| !(i as u64)).collect::<Vec<u64>>(), WIDE_GUARD);
         let (lent_pattern, lent_heading) = (nodes(pattern), nodes(heading));
@@ -124,17 +124,14 @@ impl Asker {
         }
         assert!(lent_pattern.part() == pattern && lent_pattern.guarded());
         assert!(lent_heading.part() == heading && lent_heading.guarded());
-        answer.is_ok()
+        answer.map_or_else(|refusal| usize::from(refusal.number), |_| 0)
     }
 
     /// Room that is just enough.
-    pub fn match_in_room(&mut self, pattern: &[u16], heading: &[u16], cut: u16) -> bool {
+    pub fn match_in_room(&mut self, pattern: &[u16], heading: &[u16], cut: u16) -> usize {
         self.match_heading(pattern, heading, cut, 64, 4 * heading.len())
     }
 }
-
-type MatchHeading =
-    fn(&[u8], &[u16], &[u16], u16, &mut [u16], &mut [u64]) -> Result<shuuxideg::Degrees, shuuxideg::Refusal>;
 
 /// Asks both to write a table into so many bytes; the file, if it was written.
 pub fn write_table(arities: &[u8], pairs: &[Pair], room: usize) -> Option<Vec<u8>> {
@@ -159,8 +156,6 @@ pub fn write_table(arities: &[u8], pairs: &[Pair], room: usize) -> Option<Vec<u8
         }
     }
 }
-
-type WriteTable = fn(&[u8], &[Pair], &mut [u8]) -> Result<usize, shuuxideg::Refusal>;
 
 /// Tells how many questions were compared, and that they were as many as there should be.
 pub fn told(what: &str, asked: usize, at_least: usize) {

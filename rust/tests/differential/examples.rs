@@ -2,23 +2,20 @@
 
 use crate::draw::Drawn;
 use crate::X;
-use shuuxideg::{plain, proved, Degrees, Refusal};
+use shuuxideg::{plain, proved, MatchHeading, Refusal};
 
-type Matched = Result<(u16, u16, Vec<Vec<u16>>), (u16, u16)>;
+/// Lowest, highest and the members of each set; or number and place.
+type Matched = Result<(u16, u16, Members), (u16, u16)>;
+type Members = Vec<Vec<u16>>;
 
-/// The degrees and, packed, the members of each set; or number and place.
-fn match_by(
-    call: fn(&[u8], &[u16], &[u16], u16, &mut [u16], &mut [u64]) -> Result<Degrees, Refusal>,
-    cut: u16,
-    pattern: &[u16],
-    heading: &[u16],
-) -> Matched {
+fn match_by(call: MatchHeading, cut: u16, pattern: &[u16], heading: &[u16]) -> Matched {
     let (mut spans, mut sets) = ([0; 64], vec![0; 4 * heading.len()]);
     match call(&Drawn::t().file(), pattern, heading, cut, &mut spans, &mut sets) {
         Err(refusal) => Err((refusal.number, refusal.place)),
         Ok(degrees) => {
             let packed: u16 = spans.iter().skip(1).step_by(2).sum();
-            let members = |set: &[u64]| (0..256).filter(|k| set[k / 64] >> (k % 64) & 1 == 1).map(|k| k as u16).collect();
+            let members =
+                |set: &[u64]| (0..256).filter(|k| set[k / 64] >> (k % 64) & 1 == 1).map(|k| k as u16).collect();
             let sets = sets.chunks(4).take(usize::from(packed)).map(members).collect();
             Ok((degrees.lowest, degrees.highest, sets))
         }

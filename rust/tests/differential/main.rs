@@ -11,17 +11,9 @@ mod tables;
 mod terms;
 mod writer;
 
-/// Document T's arities and pairs: the table that the examples use.
+/// The arities and the pairs of table T, which the examples use.
 pub const T_ARITIES: [u8; 8] = [2, 1, 1, 1, 1, 0, 0, 0];
-pub const T_PAIRS: [(u16, u16, u16); 8] = [
-    (1, 2, 500),
-    (1, 3, 600),
-    (1, 4, 700),
-    (2, 3, 600),
-    (2, 4, 800),
-    (5, 6, 500),
-    (5, 7, 700),
-    (6, 7, 800),
-];
+pub const T_PAIRS: [(u16, u16, u16); 8] =
+    [(1, 2, 500), (1, 3, 600), (1, 4, 700), (2, 3, 600), (2, 4, 800), (5, 6, 500), (5, 7, 700), (6, 7, 800)];
 /// The node of variable 0.
 pub const X: u16 = shuuxideg::VARIABLE;

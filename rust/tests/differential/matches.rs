@@ -4,6 +4,13 @@ use crate::asks::{told, Asker};
 use crate::draw::{damaged, damaged_file, Draw, Drawn};
 use crate::X;
 
+/// How often each refusal was given; 0 is a match.
+type Given = [usize; 12];
+
+/// About how many nodes a pattern has, and at most a variable's form: small and large on both sides, and too large.
+const SIZES: [(usize, usize); 11] =
+    [(1, 1024), (3, 400), (10, 80), (31, 30), (32, 30), (33, 30), (90, 60), (100, 8), (1000, 1), (1024, 1), (1030, 1)];
+
 const CUTS: [u16; 9] = [1, 400, 500, 501, 600, 700, 701, 999, 1000];
 
 #[test]
@@ -12,7 +19,7 @@ fn every_short_pattern() {
     let headings: [&[u16]; 9] =
         [&[5], &[1, 5], &[2, 7], &[0, 5, 6], &[0, 5, 5], &[0, 1, 5, 7], &[0, 1, 5, 2, 6], &[0, 0, 5, 6, 7], &[1, 4, 7]];
     let nodes = [0, 1, 4, 5, 7, X, X + 1];
-    let mut found = 0;
+    let mut given: Given = [0; 12];
     for size in 1..=5u32 {
         for number in 0..7usize.pow(size) {
             let pattern: Vec<u16> = (0..size).map(|i| nodes[number / 7usize.pow(i) % 7]).collect();
@@ -23,19 +30,20 @@ fn every_short_pattern() {
             }
             for heading in headings {
                 for cut in [500, 600, 601, 701] {
-                    found += usize::from(asker.match_in_room(&pattern, heading, cut));
+                    given[asker.match_in_room(&pattern, heading, cut)] += 1;
                 }
             }
         }
     }
-    assert!(found > 300, "{} matches", found);
+    assert!(given[0] > 300 && given[6] > 0 && given[9] > 0 && given[10] > 0, "{:?}", given);
     told("matches, every short pattern", asker.asked, 30_000);
 }
 
 #[test]
 fn small_matches() {
     let mut draw = Draw::new(20);
-    let (mut asked, mut found) = (0, 0);
+    let mut asked = 0;
+    let mut given: Given = [0; 12];
     for _ in 0..1500 {
         let table = Drawn::small(&mut draw);
         let mut asker = Asker::new(&table.file());
@@ -43,34 +51,34 @@ fn small_matches() {
             let pattern_nodes = 1 + draw.below(14);
             let (pattern, heading) = table.question(&mut draw, pattern_nodes, 7);
             let cut = draw.one(&CUTS);
-            found += usize::from(asker.match_in_room(&pattern, &heading, cut));
-            found += usize::from(asker.match_in_room(&pattern, &heading, 1));
+            given[asker.match_in_room(&pattern, &heading, cut)] += 1;
+            given[asker.match_in_room(&pattern, &heading, 1)] += 1;
         }
         asked += asker.asked;
     }
-    assert!(found > 10_000, "{} matches", found);
+    assert!(given[0] > 10_000 && given[9] > 1000 && given[10] > 1000, "{:?}", given);
     told("matches, small", asked, 48_000);
 }
 
 #[test]
 fn large_matches() {
     let mut draw = Draw::new(21);
-    let (mut asked, mut found) = (0, 0);
+    let mut asked = 0;
+    let mut given: Given = [0; 12];
     for _ in 0..250 {
         let table = Drawn::large(&mut draw);
         let mut asker = Asker::new(&table.file());
         for _ in 0..4 {
-            let (pattern_nodes, form_nodes) =
-                draw.one(&[(1, 1024), (3, 400), (10, 80), (31, 30), (32, 30), (33, 30), (100, 8), (1000, 1), (1024, 1)]);
+            let (pattern_nodes, form_nodes) = draw.one(&SIZES);
             let (pattern, heading) = table.question(&mut draw, pattern_nodes, form_nodes);
             let cut = draw.one(&CUTS);
-            found += usize::from(asker.match_in_room(&pattern, &heading, cut));
+            given[asker.match_in_room(&pattern, &heading, cut)] += 1;
             let (more_spans, more_sets) = (draw.below(20), draw.below(50));
-            asker.match_heading(&pattern, &heading, 1, 64 + more_spans, 4 * heading.len() + more_sets);
+            given[asker.match_heading(&pattern, &heading, 1, 64 + more_spans, 4 * heading.len() + more_sets)] += 1;
         }
         asked += asker.asked;
     }
-    assert!(found > 200, "{} matches", found);
+    assert!(given[0] > 500 && given[6] + given[7] > 50 && given[9] > 100 && given[10] > 50, "{:?}", given);
     told("matches, large", asked, 2_000);
 }
 
@@ -79,6 +87,7 @@ fn large_matches() {
 fn damaged_questions() {
     let mut draw = Draw::new(22);
     let mut asked = 0;
+    let mut given: Given = [0; 12];
     for _ in 0..6000 {
         let table = if draw.chance(95) { Drawn::small(&mut draw) } else { Drawn::large(&mut draw) };
         let (mut pattern, mut heading) = table.question(&mut draw, 10, 6);
@@ -95,10 +104,11 @@ fn damaged_questions() {
             }
         }
         let mut asker = Asker::new(&file);
-        asker.match_heading(&pattern, &heading, cut, spans, sets);
+        given[asker.match_heading(&pattern, &heading, cut, spans, sets)] += 1;
         asker.match_heading(&pattern, &heading, cut, 64, 4 * heading.len());
         asked += asker.asked;
     }
+    assert!(given[1..9].iter().all(|&times| times > 10), "{:?}", given);
     told("matches, damaged", asked, 12_000);
 }
 

@@ -47,9 +47,8 @@ fn numbers(draw: &mut Draw, file: &[u8]) {
 
     let mut pair = shuuxideg::Pair { lower: BEFORE, higher: BEFORE, degree: BEFORE };
     let unwritten = pair;
-    let ours = unsafe {
-        ffi::shx_pair(file.as_ptr(), file.len(), index, &mut pair.lower, &mut pair.higher, &mut pair.degree)
-    };
+    let ours =
+        unsafe { ffi::shx_pair(file.as_ptr(), file.len(), index, &mut pair.lower, &mut pair.higher, &mut pair.degree) };
     let plain = plain::pair(file, index);
     assert_eq!((ours, pair), (answer(&plain), plain.unwrap_or(unwritten)));
     assert_eq!(unsafe { ffi::shx_table(file.as_ptr(), file.len()) }, answer(&plain::check_table(file)));

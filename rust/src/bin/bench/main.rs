@@ -4,21 +4,21 @@
 mod build;
 mod workloads;
 
-use shuuxideg::{plain, proved, Degrees, Pair, Refusal};
+use shuuxideg::{plain, proved, Answer, MatchHeading, WriteTable};
 use std::time::Instant;
 use workloads::{workloads, Workload};
 
 /// The calls of one implementation, reached by pointer, so that neither is inlined into the loop that repeats it.
 #[derive(Clone, Copy)]
 pub struct Calls {
-    pub check_table: fn(&[u8]) -> Result<(), Refusal>,
-    pub symbol_degree: fn(&[u8], u16, u16) -> Result<u16, Refusal>,
-    pub heading_degree: fn(&[u8], &[u16], &[u16]) -> Result<u16, Refusal>,
+    pub check_table: fn(&[u8]) -> Answer<()>,
+    pub symbol_degree: fn(&[u8], u16, u16) -> Answer<u16>,
+    pub heading_degree: HeadingDegree,
     pub match_heading: MatchHeading,
-    pub write_table: fn(&[u8], &[Pair], &mut [u8]) -> Result<usize, Refusal>,
+    pub write_table: WriteTable,
 }
 
-type MatchHeading = fn(&[u8], &[u16], &[u16], u16, &mut [u16], &mut [u64]) -> Result<Degrees, Refusal>;
+type HeadingDegree = fn(&[u8], &[u16], &[u16]) -> Answer<u16>;
 
 static OURS: Calls = Calls {
     check_table: proved::check_table,

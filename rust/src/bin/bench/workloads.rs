@@ -105,8 +105,7 @@ fn middling_match() -> Question {
     let forms = [5, 3, 4].map(|leaves| table.form(&mut draw, leaves));
     let mut symbol = |arity| table.symbol(&mut draw, arity);
     let (x, y, z) = (VARIABLE, VARIABLE + 1, VARIABLE + 2);
-    let pattern =
-        vec![symbol(2), symbol(1), x, symbol(2), symbol(1), y, symbol(2), y, symbol(1), z];
+    let pattern = vec![symbol(2), symbol(1), x, symbol(2), symbol(1), y, symbol(2), y, symbol(1), z];
     let heading = filled(&table, &mut draw, &pattern, &forms);
     assert_eq!(heading.len(), 32);
     Question { table, pattern, heading, cut: CUT, refused: None }
