@@ -4,24 +4,31 @@ use mathlib.Core.Path.{_≡_, refl, sym as inv, ap, _∙_}
 use mathlib.Core.List.{List, [], _∷_}
 use mathlib.Core.Bool.{Bool, cond}
 use Prim.Native.Nat.{ℕ, _+_, _*_, _≤_, _<_, min}
-use native.Mathlib.Nat.{not-suc-le-zero}
+use native.Mathlib.Nat.{not-suc-le-zero, zero-add}
 use native.Mathlib.Omega.{arith}
 use lib.ListN.{length, getD}
+use lib.Seq.{take-all}
 use Rattle.theory.specs.Tree.{Term}
 use Rattle.theory.specs.Table.{Table}
 use Rattle.theory.specs.Least.{least}
 use Rattle.theory.specs.Faces.{Face, facing}
-use Rattle.theory.specs.Match.{positions}
+use Rattle.theory.specs.Match.{size, positions}
 use Rattle.theory.specs.Stands.{Gathered}
+use Rattle.theory.specs.Decode.{termOf}
+use Rattle.theory.proofs.Decoding.{heading-of}
+use Rattle.theory.proofs.Draw.{over-at}
+use Rattle.theory.proofs.Gathered.{at-node}
 use Rattle.theory.proofs.Along.{Readable, Faced}
-use Rattle.meaning.specs.Limits.{spanWidth}
+use Rattle.meaning.specs.Limits.{setWords, spanWidth}
 use Rattle.meaning.specs.File.{tableIn}
 use Rattle.meaning.specs.Packing.{countOf}
 use Rattle.meaning.specs.Calls.{facesIn}
 use Rattle.meaning.specs.Search.{symbolWorth}
 use Rattle.meaning.specs.Over.{over}
+use Rattle.meaning.proofs.Sound.{sound}
+use Rattle.table.specs.Near.{NearSets}
 use Rattle.facing.specs.Faced.{ClearBy}
-use Rattle.positions.specs.Facing.{Within}
+use Rattle.positions.specs.Facing.{Within, Covers, NearOf}
 use Rattle.facing.specs.Gathering.{GatheredBy}
 use Rattle.positions.specs.Variable.{PackedTo}
 use Rattle.matching.specs.Pack.{Packable, Room, PackedNext}
@@ -70,6 +77,22 @@ module _ {table pattern heading : List ℕ} {cut : ℕ} {starts sizes : List ℕ
   -- LAW: the heading has few nodes
   pub short : length heading ≤ 1024
   short = few-nodes reads
+
+  -- LAW: the near sets of all symbols are enough, for every node of the heading is a symbol
+  pub covers : (near : List ℕ) → setWords * tableIn table .size ≤ length near → Covers heading near
+  covers near room i l =
+      let T = tableIn table in
+      let t = termOf T heading in
+      let h = heading-of T (reads .small) heading (k .heading-reads) in
+      let n : i < size t = omega (arith, ap length (h .1)) in
+      let symbol = over-at T t (h .0) i n in
+      let node = at-node T t heading 0 (take-all (size t) heading (omega (arith, ap length (h .1))) ∙ h .1) i n in
+      let here = ap (λ (j : ℕ). getD heading j 0) (zero-add i) in
+      omega arith
+
+  -- LAW: gathered for this table, they are the near sets at the cut
+  pub near-of : (near : List ℕ) → NearSets (tableIn table) cut near → NearOf (tableIn table) cut near
+  near-of near sets = record { lawful = reads .lawful; small = sound table (k .sound) .small; positive = k .positive; sets = sets }
 
   clear-by : ClearBy table cut pattern heading (least (symbolWorth (tableIn table)) (facesIn table pattern heading)) starts sizes
   clear-by = record { clear = k .clear; lowest = refl; noted = k .noted }

@@ -57,6 +57,7 @@ pub record Fit (table pattern heading : List ℕ) (cut : ℕ) (spans sets : List
   pub pattern-reads : reading (tableIn table) true pattern ≡ whole
   pub heading-reads : reading (tableIn table) false heading ≡ whole
   pub positive : 0 < cut
+  pub top : cut ≤ 1000
   pub spans-room : spanWidth * variableCount ≤ length spans
   pub sets-room : setWords * length heading ≤ length sets
 
@@ -82,11 +83,13 @@ module _ (table pattern heading : List ℕ) (cut : ℕ) (spans sets : List ℕ) 
         let q = append-none (tableRows table) rest a in
         let s = all-silent rest (q .1) in
         let room = rooms8 heading spans sets (s .1 .1 .1 .0) in
+        let at-cut = ready table pattern heading cut spans sets a in
         record {
           sound = q .0;
           pattern-reads = whole6 T true pattern (s .1 .0);
           heading-reads = whole7 T heading (s .1 .1 .0);
-          positive = ready table pattern heading cut spans sets a .positive;
+          positive = at-cut .positive;
+          top = at-cut .cut-top;
           spans-room = room .0;
           sets-room = room .1;
         }
@@ -106,6 +109,7 @@ module _ (table pattern heading : List ℕ) (cut : ℕ) (spans sets : List ℕ) 
           pattern-reads = fit .pattern-reads;
           heading-reads = fit .heading-reads;
           positive = fit .positive;
+          top = fit .top;
           clear = c .clear;
           noted = c .noted;
         }

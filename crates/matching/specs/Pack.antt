@@ -17,6 +17,7 @@ use Rattle.meaning.specs.Packing.{through, order, countOf, packedCount, packedS
 use Rattle.meaning.specs.Calls.{zeros, facesIn}
 use Rattle.meaning.specs.Search.{variableWorth, unformed, worst}
 use Rattle.meaning.specs.Over.{over}
+use Rattle.positions.specs.Facing.{Covers}
 use Rattle.matching.specs.declared.pack.Search.{Search}
 
 -- What packing starts from: the lists are read whole over the table, nothing clashes, and it is noted where the subterms stand that face the
@@ -26,8 +27,15 @@ pub record Packable (table pattern heading : List ℕ) (cut : ℕ) (starts sizes
   pub pattern-reads : reading (tableIn table) true pattern ≡ whole
   pub heading-reads : reading (tableIn table) false heading ≡ whole
   pub positive : 0 < cut
+  pub top : cut ≤ 1000
   pub clear : clash (tableIn table) cut (facesIn table pattern heading) ≡ none
   pub noted : Noted heading starts sizes (facesIn table pattern heading)
+
+-- What packing one variable starts from: all that, at the cut of the near sets, of which there is one for each node of the heading.
+pub record PackableNext (table near pattern heading starts sizes : List ℕ) : Type 0 where
+  pub cut : ℕ
+  pub packable : Packable table pattern heading cut starts sizes
+  pub covers : Covers heading near
 
 -- The lists that are lent are long enough.
 pub record Room (pattern heading starts sizes ownStarts ownSizes spans sets : List ℕ) : Type 0 where

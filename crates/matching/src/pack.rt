@@ -1,6 +1,6 @@
 // All variables of the pattern.
 ghost use mathlib.Core.Path.{_≡_};
-ghost use Prim.Native.Nat.{_+_, _<_, _≤_};
+ghost use Prim.Native.Nat.{ℕ, _+_, _<_, _≤_};
 ghost use lib.ListN.{length};
 ghost use Rattle.theory.specs.Least.{least as leastOf};
 ghost use Rattle.meaning.specs.Limits.{variableCount};
@@ -8,10 +8,13 @@ ghost use Rattle.meaning.specs.File.{tableIn};
 ghost use Rattle.meaning.specs.Packing.{countOf};
 ghost use Rattle.meaning.specs.Calls.{zeros, facesIn};
 ghost use Rattle.meaning.specs.Search.{symbolWorth};
-ghost use Rattle.matching.specs.Pack.{Packable, Room, PackedNext, PackedAll};
+ghost use Rattle.table.specs.Near.{Fresh};
+ghost use Rattle.positions.specs.Facing.{NearOf};
+ghost use Rattle.matching.specs.Pack.{Packable, PackableNext, Room, PackedNext, PackedAll};
 use facing::gather::gather;
 use positions::position::lesser;
 use positions::variable::pack_variable;
+use table::near::near_sets;
 use table::read::symbol_count;
 use terms::kind::Kind;
 use terms::kind::kind_of;
@@ -26,12 +29,12 @@ pub struct Search {
     pub highest: u16,
 }
 
-// Packs variable v, which stands in the pattern, behind what is packed already.
+// Packs variable v, which stands in the pattern, behind what is packed already, at the cut of the near sets.
 fn pack_next(
     table: &[u8],
+    near: &[u64],
     pattern: &[u16],
     heading: &[u16],
-    cut: u16,
     starts: &[u16],
     sizes: &[u16],
     v: u16,
@@ -41,11 +44,11 @@ fn pack_next(
     spans: &mut [u16],
     sets: &mut [u64],
 ) -> Search
-    requires { ⌜ Packable (now table) (now pattern) (now heading) cut (now starts) (now sizes) ⌝ }
+    requires { ⌜ PackableNext (now table) (now near) (now pattern) (now heading) (now starts) (now sizes) ⌝ }
     requires { ⌜ Room (now pattern) (now heading) (now starts) (now sizes) (now «own_starts») (now «own_sizes») (now spans) (now sets) ⌝ }
     requires { ⌜ (v < variableCount) × (0 < countOf (facesIn (now table) (now pattern) (now heading)) v) ⌝ }
     requires { ⌜ search .packed + countOf (facesIn (now table) (now pattern) (now heading)) v ≤ length (now heading) ⌝ }
-    ensures { λ r. ⌜ PackedNext (tableIn (now (table .entry))) cut (facesIn (now (table .entry)) (now (pattern .entry)) (now (heading .entry))) v search r (now (spans .entry)) (now (spans .exit)) (now (sets .entry)) (now (sets .exit)) ⌝ }
+    ensures { λ r. ⌜ ((cut : ℕ) → NearOf (tableIn (now (table .entry))) cut (now (near .entry)) → PackedNext (tableIn (now (table .entry))) cut (facesIn (now (table .entry)) (now (pattern .entry)) (now (heading .entry))) v search r (now (spans .entry)) (now (spans .exit)) (now (sets .entry)) (now (sets .exit))) ⌝ }
 {
     let count = gather(pattern, starts, sizes, v, own_starts, own_sizes);
     let positions = own_sizes[0];
@@ -54,11 +57,11 @@ fn pack_next(
     spans[span + 1] = positions;
     let found = pack_variable(
         table,
+        near,
         heading,
         own_starts,
         own_sizes,
         count,
-        cut,
         search.packed,
         sets,
     );
@@ -74,8 +77,8 @@ fn pack_next(
     }
 }
 
-// Packs every variable of the pattern, in the order in which they first stand. The two lists of its own are lent for the notes of one variable
-// at a time.
+// Packs every variable of the pattern, in the order in which they first stand. `near` is lent for the near sets of all symbols, the two lists
+// of its own for the notes of one variable at a time.
 pub fn pack(
     table: &[u8],
     pattern: &[u16],
@@ -84,6 +87,7 @@ pub fn pack(
     starts: &[u16],
     sizes: &[u16],
     least: u16,
+    near: &mut [u64],
     own_starts: &mut [u16],
     own_sizes: &mut [u16],
     spans: &mut [u16],
@@ -91,10 +95,12 @@ pub fn pack(
 ) -> Search
     requires { ⌜ Packable (now table) (now pattern) (now heading) cut (now starts) (now sizes) ⌝ }
     requires { ⌜ Room (now pattern) (now heading) (now starts) (now sizes) (now «own_starts») (now «own_sizes») (now spans) (now sets) ⌝ }
+    requires { ⌜ Fresh (tableIn (now table)) (now near) ⌝ }
     requires { ⌜ least ≡ leastOf (symbolWorth (tableIn (now table))) (facesIn (now table) (now pattern) (now heading)) ⌝ }
     requires { ⌜ now spans ≡ zeros (length (now spans)) ⌝ }
     ensures { λ r. ⌜ PackedAll (tableIn (now (table .entry))) cut (facesIn (now (table .entry)) (now (pattern .entry)) (now (heading .entry))) r (now (spans .exit)) (now (sets .entry)) (now (sets .exit)) ⌝ }
 {
+    near_sets(table, cut, near);
     let symbols = symbol_count(table);
     let mut search = Search {
         packed: 0,
@@ -109,9 +115,9 @@ pub fn pack(
                 if spans[2 * v as usize + 1] == 0 {
                     search = pack_next(
                         table,
+                        near,
                         pattern,
                         heading,
-                        cut,
                         starts,
                         sizes,
                         v,

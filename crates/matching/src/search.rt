@@ -3,8 +3,10 @@ ghost use mathlib.Core.Path.{_≡_};
 ghost use Prim.Native.Nat.{_*_, _≤_};
 ghost use lib.ListN.{length};
 ghost use Rattle.meaning.specs.Limits.{setWords};
+ghost use Rattle.meaning.specs.File.{tableIn};
 ghost use Rattle.meaning.specs.Calls.{matchCall};
 ghost use Rattle.meaning.specs.Demands.{Accepted};
+ghost use Rattle.table.specs.Near.{Fresh};
 ghost use Rattle.facing.specs.Faced.{ClearBy};
 ghost use Rattle.matching.specs.Pack.{Room};
 ghost use Rattle.matching.specs.Outcomes.{resultOf, emptied, outcomeOf};
@@ -16,6 +18,7 @@ use facing::faces::Facing;
 use facing::faces::face;
 use refusal::Refusal;
 use sets::SymbolSet;
+use table::read::symbol_count;
 
 pub enum Outcome {
     // the lowest and the highest degree
@@ -56,12 +59,14 @@ fn search_variables(
     starts: &[u16],
     sizes: &[u16],
     least: u16,
+    near: &mut [u64],
     own_starts: &mut [u16],
     own_sizes: &mut [u16],
     spans: &mut [u16],
     sets: &mut [u64],
 ) -> Outcome
     requires { ⌜ Accepted (now table) (now pattern) (now heading) cut (now spans) (now sets) ⌝ }
+    requires { ⌜ Fresh (tableIn (now table)) (now near) ⌝ }
     requires { ⌜ ClearBy (now table) cut (now pattern) (now heading) least (now starts) (now sizes) ⌝ }
     requires { ⌜ Room (now pattern) (now heading) (now starts) (now sizes) (now «own_starts») (now «own_sizes») (now spans) (now sets) ⌝ }
     ensures { λ r. ⌜ resultOf r (now (spans .exit)) (now (sets .exit)) ≡ matchCall (now (table .entry)) (now (pattern .entry)) (now (heading .entry)) cut (now (spans .entry)) (now (sets .entry)) ⌝ }
@@ -75,6 +80,7 @@ fn search_variables(
         starts,
         sizes,
         least,
+        near,
         own_starts,
         own_sizes,
         spans,
@@ -83,7 +89,8 @@ fn search_variables(
     settle(heading.len(), found, spans, sets)
 }
 
-// The match. What faces the pattern's nodes, and then one variable, is noted in the four lists that are lent for it.
+// The match. What faces the pattern's nodes, and then one variable, is noted in the four lists that are lent for it, and `near` for the near
+// sets.
 pub fn search(
     table: &[u8],
     pattern: &[u16],
@@ -91,12 +98,14 @@ pub fn search(
     cut: u16,
     starts: &mut [u16],
     sizes: &mut [u16],
+    near: &mut [u64],
     own_starts: &mut [u16],
     own_sizes: &mut [u16],
     spans: &mut [u16],
     sets: &mut [u64],
 ) -> Outcome
     requires { ⌜ Accepted (now table) (now pattern) (now heading) cut (now spans) (now sets) ⌝ }
+    requires { ⌜ Fresh (tableIn (now table)) (now near) ⌝ }
     requires { ⌜ (length (now pattern) ≤ length (now starts)) × (length (now pattern) ≤ length (now sizes)) ⌝ }
     requires { ⌜ (length (now pattern) ≤ length (now «own_starts»)) × (length (now pattern) ≤ length (now «own_sizes»)) ⌝ }
     ensures { λ r. ⌜ resultOf r (now (spans .exit)) (now (sets .exit)) ≡ matchCall (now (table .entry)) (now (pattern .entry)) (now (heading .entry)) cut (now (spans .entry)) (now (sets .entry)) ⌝ }
@@ -111,6 +120,7 @@ pub fn search(
             starts,
             sizes,
             least,
+            near,
             own_starts,
             own_sizes,
             spans,
@@ -119,7 +129,7 @@ pub fn search(
     }
 }
 
-// The match of a small pattern.
+// The match of a small pattern over a small table.
 fn search_small(
     table: &[u8],
     pattern: &[u16],
@@ -128,12 +138,13 @@ fn search_small(
     spans: &mut [u16],
     sets: &mut [u64],
 ) -> Outcome
-    requires { ⌜ length (now pattern) ≤ 64 ⌝ }
+    requires { ⌜ (length (now pattern) ≤ 64) × (tableIn (now table) .size ≤ 16) ⌝ }
     requires { ⌜ Accepted (now table) (now pattern) (now heading) cut (now spans) (now sets) ⌝ }
     ensures { λ r. ⌜ resultOf r (now (spans .exit)) (now (sets .exit)) ≡ matchCall (now (table .entry)) (now (pattern .entry)) (now (heading .entry)) cut (now (spans .entry)) (now (sets .entry)) ⌝ }
 {
     let mut starts = [0u16; 64];
     let mut sizes = [0u16; 64];
+    let mut near = [0u64; 64];
     let mut own_starts = [0u16; 64];
     let mut own_sizes = [0u16; 64];
     search(
@@ -143,6 +154,7 @@ fn search_small(
         cut,
         &mut starts,
         &mut sizes,
+        &mut near,
         &mut own_starts,
         &mut own_sizes,
         spans,
@@ -164,6 +176,7 @@ fn search_large(
 {
     let mut starts = [0u16; 1024];
     let mut sizes = [0u16; 1024];
+    let mut near = [0u64; 1024];
     let mut own_starts = [0u16; 1024];
     let mut own_sizes = [0u16; 1024];
     search(
@@ -173,6 +186,7 @@ fn search_large(
         cut,
         &mut starts,
         &mut sizes,
+        &mut near,
         &mut own_starts,
         &mut own_sizes,
         spans,
@@ -192,7 +206,7 @@ pub fn search_sound(
     requires { ⌜ Accepted (now table) (now pattern) (now heading) cut (now spans) (now sets) ⌝ }
     ensures { λ r. ⌜ resultOf r (now (spans .exit)) (now (sets .exit)) ≡ matchCall (now (table .entry)) (now (pattern .entry)) (now (heading .entry)) cut (now (spans .entry)) (now (sets .entry)) ⌝ }
 {
-    if pattern.len() <= 64 {
+    if pattern.len() <= 64 && symbol_count(table) <= 16 {
         search_small(table, pattern, heading, cut, spans, sets)
     } else {
         search_large(table, pattern, heading, cut, spans, sets)

@@ -5,11 +5,12 @@ use mathlib.Core.List.{List, [], _∷_, _++_}
 use mathlib.Core.Bool.{Bool, true, false, _&&_, and-false, cond}
 use Prim.Native.Nat.{ℕ, zero, suc, _+_, _≤_, _<_, min, max}
 use native.Mathlib.Numerals.{add-one}
+use native.Mathlib.Decide.{decLt}
 use native.Mathlib.Omega.{arith}
 use lib.Dec.{ltb, leb}
-use lib.ListN.{getD, take}
+use lib.ListN.{length, getD, take}
 use lib.Seq.{take-suc, take-all, length-take-le, getD-take}
-use borrow.Author.Tests.{lt-leb}
+use borrow.Author.Tests.{lt-leb, le-ltb}
 use Rattle.theory.specs.Tree.{Term, node, ∅}
 use Rattle.theory.specs.Table.{Table, Lawful}
 use Rattle.theory.specs.Match.{at, shared, inSet}
@@ -17,9 +18,22 @@ use Rattle.theory.specs.Stands.{StandsAt, Gathered}
 use Rattle.theory.proofs.Lemmas.{most, fewest}
 use Rattle.theory.proofs.Growing.{shared-more, set-more}
 use Rattle.theory.proofs.Gathered.{at-node, at-past}
-use Rattle.meaning.specs.Buffers.{member}
+use Rattle.meaning.specs.Limits.{setWords, setRoom}
+use Rattle.meaning.specs.Buffers.{member, holds}
 use Rattle.meaning.proofs.Rated.{lowest-top}
-use Rattle.positions.specs.Facing.{DegreeAt, NearAt, SharedAt, SetAt, DegreesAt}
+use Rattle.sets.proofs.Laws.{none-past}
+use Rattle.positions.specs.Facing.{NearOf, DegreeAt, NearAt, SharedAt, SetAt, DegreesAt}
+
+-- ---- one near set
+
+-- LAW: the words of the set of h are the symbols near to h
+pub near-members : {T : Table} {cut : ℕ} {near : List ℕ} → NearOf T cut near → (h : ℕ) (words : List ℕ) → length words ≡ setWords
+    → ((k : ℕ) → k < setRoom → member words k ≡ holds near h k) → (s : ℕ) → member words s ≡ (ltb s (T .size) && leb cut (T .deg s h))
+near-members {T} {cut} known h words four same s = go (decLt s setRoom)
+  where
+    go : Dec (s < setRoom) → member words s ≡ (ltb s (T .size) && leb cut (T .deg s h))
+    go (yes l) = same s l ∙ known .sets h s l
+    go (no l) = rw (le-ltb s (T .size) (omega (arith, known .small))) (none-past setWords words four s (omega arith))
 
 -- ---- one subterm
 

@@ -3,20 +3,33 @@
 use mathlib.Core.Path.{_≡_}
 use mathlib.Core.List.{List}
 use mathlib.Core.Bool.{_&&_}
-use Prim.Native.Nat.{ℕ, _+_, _≤_, _<_}
+use Prim.Native.Nat.{ℕ, _+_, _*_, _≤_, _<_}
 use lib.Dec.{ltb, leb}
 use lib.ListN.{length, getD}
 use Rattle.theory.specs.Tree.{Term}
-use Rattle.theory.specs.Table.{Table}
+use Rattle.theory.specs.Table.{Table, Lawful}
 use Rattle.theory.specs.Stands.{StandsAt, Gathered}
 use Rattle.theory.specs.Match.{at, shared, inSet, lowestAt, highestAt}
+use Rattle.meaning.specs.Limits.{setWords, setRoom}
 use Rattle.meaning.specs.Buffers.{member}
+use Rattle.table.specs.Near.{NearSets}
 
 -- the first n starts and sizes are there, and each stays inside the list
 pub record Within (list starts sizes : List ℕ) (n : ℕ) : Type 0 where
   pub started : n ≤ length starts
   pub sized : n ≤ length sizes
   pub ends : (o : ℕ) → o < n → getD starts o 0 + getD sizes o 0 ≤ length list
+
+-- there is a near set for each number of the list
+abbrev pub Covers : List ℕ → List ℕ → Type 0
+Covers list near = (i : ℕ) → i < length list → setWords * (getD list i 0 + 1) ≤ length near
+
+-- the near sets are those of a table of symbols at a cut
+pub record NearOf (T : Table) (cut : ℕ) (near : List ℕ) : Type 0 where
+  pub lawful : Lawful T
+  pub small : T .size ≤ setRoom
+  pub positive : 0 < cut
+  pub sets : NearSets T cut near
 
 -- ---- at position k of the subterm from index `start` on
 

@@ -11,6 +11,7 @@ use Rattle.theory.specs.Stands.{Gathered}
 use Rattle.meaning.specs.Limits.{setWords}
 use Rattle.meaning.specs.Packing.{through, allWords}
 use Rattle.meaning.specs.Over.{over}
+use Rattle.positions.specs.Facing.{NearOf}
 use Rattle.positions.specs.declared.variable.Found.{Found}
 
 -- The first n positions of a variable that the terms ts face are packed over the buffer `before`, from position `start` on: their sets, whether
@@ -21,9 +22,9 @@ pub record PackedTo (T : Table) (cut : ℕ) (ts : List Term) (start n : ℕ) (be
   pub at-worst : low ≡ lowest n (lowestAt T cut ts)
   pub at-best : high ≡ lowest n (highestAt T cut ts)
 
-module _ (T : Table) (list starts sizes : List ℕ) (count cut start : ℕ) (before after : List ℕ) where
-  -- all positions are, of whatever terms stand there
+module _ (T : Table) (near list starts sizes : List ℕ) (count start : ℕ) (before after : List ℕ) where
+  -- all positions are, of whatever terms stand there, at whatever cut the near sets are of
   abbrev pub VariablePacked : Found → Type 0
   VariablePacked r =
-      (ts : List Term) → Gathered list starts sizes count ts
+      (ts : List Term) (cut : ℕ) → Gathered list starts sizes count ts → NearOf T cut near
       → PackedTo T cut ts start (positions ts) before after (r .formed) (r .lowest) (r .highest)

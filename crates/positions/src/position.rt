@@ -2,14 +2,15 @@
 //
 // The o-th of them begins at index `starts[o]` of the heading and has `sizes[o]` nodes.
 ghost use mathlib.Core.Path.{_≡_};
-ghost use Prim.Native.Nat.{_+_, _<_, _≤_, min, max};
+ghost use Prim.Native.Nat.{ℕ, _+_, _<_, _≤_, min, max};
 ghost use lib.ListN.{length};
+ghost use Rattle.theory.specs.Table.{Table};
 ghost use Rattle.meaning.specs.File.{tableIn};
 ghost use Rattle.meaning.specs.Refusals.{SoundFile};
-ghost use Rattle.positions.specs.Facing.{Within, DegreeAt, NearAt, SharedAt, SetAt, DegreesAt};
+ghost use Rattle.positions.specs.Facing.{Within, Covers, NearOf, DegreeAt, NearAt, SharedAt, SetAt, DegreesAt};
 use sets::SymbolSet;
 use table::degree::degree;
-use table::near::near;
+use table::near::set_of;
 use table::read::symbol_count;
 
 pub fn lesser(a: u16, b: u16) -> u16
@@ -24,16 +25,16 @@ pub fn greater(a: u16, b: u16) -> u16
     if a < b { b } else { a }
 }
 
-// The symbols near enough to what stands at position k of one subterm.
-fn near_at(table: &[u8], heading: &[u16], start: u16, size: u16, k: usize, cut: u16) -> SymbolSet
-    requires { ⌜ SoundFile (now table) × (start + size ≤ length (now heading)) × (0 < cut) ⌝ }
-    ensures { λ r. ⌜ NearAt (tableIn (now (table .entry))) (now (heading .entry)) start size k cut (r .words) ⌝ }
+// The symbols near enough to what stands at position k of one subterm, by the near sets of all symbols.
+fn near_at(near: &[u64], heading: &[u16], start: u16, size: u16, k: usize) -> SymbolSet
+    requires { ⌜ Covers (now heading) (now near) × (start + size ≤ length (now heading)) ⌝ }
+    ensures { λ r. ⌜ ((T : Table) (cut : ℕ) → NearOf T cut (now (near .entry)) → NearAt T (now (heading .entry)) start size k cut (r .words)) ⌝ }
 {
     // past its end there is no symbol
     if k >= size as usize {
         return SymbolSet::empty();
     }
-    near(table, heading[start as usize + k], cut)
+    set_of(near, heading[start as usize + k])
 }
 
 // The degree of a symbol with what stands at position k of one subterm.
@@ -50,20 +51,19 @@ fn degree_at(table: &[u8], heading: &[u16], start: u16, size: u16, k: usize, sym
 
 // The set at position k: the symbols near enough to what stands there in every subterm.
 pub fn set_at(
-    table: &[u8],
+    near: &[u64],
     heading: &[u16],
     starts: &[u16],
     sizes: &[u16],
     count: usize,
     k: usize,
-    cut: u16,
 ) -> SymbolSet
-    requires { ⌜ SoundFile (now table) × Within (now heading) (now starts) (now sizes) count × (0 < count) × (0 < cut) ⌝ }
-    ensures { λ r. ⌜ SetAt (tableIn (now (table .entry))) (now (heading .entry)) (now (starts .entry)) (now (sizes .entry)) k cut count (r .words) ⌝ }
+    requires { ⌜ Covers (now heading) (now near) × Within (now heading) (now starts) (now sizes) count × (0 < count) ⌝ }
+    ensures { λ r. ⌜ ((T : Table) (cut : ℕ) → NearOf T cut (now (near .entry)) → SetAt T (now (heading .entry)) (now (starts .entry)) (now (sizes .entry)) k cut count (r .words)) ⌝ }
 {
-    let mut set = near_at(table, heading, starts[0], sizes[0], k, cut);
+    let mut set = near_at(near, heading, starts[0], sizes[0], k);
     for o in 1..count {
-        set = set.intersect(near_at(table, heading, starts[o], sizes[o], k, cut));
+        set = set.intersect(near_at(near, heading, starts[o], sizes[o], k));
     }
     set
 }

@@ -6,7 +6,7 @@ ghost use Rattle.meaning.specs.Limits.{setWords};
 ghost use Rattle.meaning.specs.File.{tableIn};
 ghost use Rattle.meaning.specs.Refusals.{SoundFile};
 ghost use Rattle.meaning.specs.Over.{over};
-ghost use Rattle.positions.specs.Facing.{Within};
+ghost use Rattle.positions.specs.Facing.{Within, Covers};
 ghost use Rattle.positions.specs.Variable.{VariablePacked};
 use crate::position::degrees_at;
 use crate::position::lesser;
@@ -33,27 +33,27 @@ pub struct Found {
     pub highest: u16,
 }
 
-// Packs the sets of the variable that these subterms face, from position `at` on.
+// Packs the sets of the variable that these subterms face, from position `at` on, at the cut of the near sets.
 pub fn pack_variable(
     table: &[u8],
+    near: &[u64],
     heading: &[u16],
     starts: &[u16],
     sizes: &[u16],
     count: usize,
-    cut: u16,
     at: usize,
     sets: &mut [u64],
 ) -> Found
-    requires { ⌜ SoundFile (now table) × Within (now heading) (now starts) (now sizes) count × (0 < count) × (0 < cut) ⌝ }
+    requires { ⌜ SoundFile (now table) × Covers (now heading) (now near) × Within (now heading) (now starts) (now sizes) count × (0 < count) ⌝ }
     requires { ⌜ setWords * (at + getD (now sizes) 0 0) ≤ length (now sets) ⌝ }
-    ensures { λ r. ⌜ VariablePacked (tableIn (now (table .entry))) (now (heading .entry)) (now (starts .entry)) (now (sizes .entry)) count cut at (now (sets .entry)) (now (sets .exit)) r ⌝ }
+    ensures { λ r. ⌜ VariablePacked (tableIn (now (table .entry))) (now (near .entry)) (now (heading .entry)) (now (starts .entry)) (now (sizes .entry)) count at (now (sets .entry)) (now (sets .exit)) r ⌝ }
 {
     let mut formed = true;
     let mut lowest: u16 = 1000;
     let mut highest: u16 = 1000;
     // the first subterm has as many nodes as the variable has positions
     for k in 0..sizes[0] as usize {
-        let set = set_at(table, heading, starts, sizes, count, k, cut);
+        let set = set_at(near, heading, starts, sizes, count, k);
         put_set(sets, at + k, set);
         if set.is_empty() {
             formed = false;

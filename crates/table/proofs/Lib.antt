@@ -5,4 +5,4 @@ pub mod Rows
 pub mod Reading
 pub mod Halving
 pub mod Listed
-pub mod Gathering
+pub mod Nearness

@@ -39,7 +39,7 @@ module _ (file : List ℕ) (sound : SoundFile file) where
   q = passed file sound
 
   -- pair k of the file may be listed
-  sound-at : (k : ℕ) → k < pairCount file → SoundPair (aritiesIn file) (getD (pairsIn file) k (pair 0 0 0))
+  pub sound-at : (k : ℕ) → k < pairCount file → SoundPair (aritiesIn file) (getD (pairsIn file) k (pair 0 0 0))
   sound-at k l = all-getD (SoundPair (aritiesIn file)) (pairsIn file) k (pair 0 0 0) (omega (arith, length-pairsIn file)) (q .pairs)
 
   short : (p : Pair) → SoundPair (aritiesIn file) p → Short p

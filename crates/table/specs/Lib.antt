@@ -1,3 +1,4 @@
 pub mod Found
 pub mod Keys
+pub mod Near
 pub mod Read

@@ -38,7 +38,7 @@ pub fn arity(file: &[u8], symbol: u16) -> u8
 }
 
 // The pair whose bytes start at i.
-fn pair_from(bytes: &[u8], i: usize) -> Pair
+pub fn pair_from(bytes: &[u8], i: usize) -> Pair
     requires { ⌜ i + 5 < length (now bytes) ⌝ }
     ensures { λ r. ⌜ pairIn r ≡ pairAt (now (bytes .entry)) i ⌝ }
 {

@@ -19,14 +19,14 @@ gather-requires : tie.Need-gather-requires
 gather-requires c κs = search needs
 
 abbrev entry : tie.After-gather → tie.Start
-entry c = c .before .before .before .before .before .before .before .before .before .before .before .before
+entry c = c .before .before .before .before .before .before .before .before .before .before .before .before .before
 
 -- the notes gathered are of the subterms that face the variable
 own : (c : tie.After-gather)
     → let a = entry c .args in
     let last = c .gather .last .1 .1 .1 .1 in
     OwnNotes (a .heading .now) (last .0) (last .1 .0) (c .gather .result) (facing (a .v) (facesIn (a .table .now) (a .pattern .now) (a .heading .now)))
-own c = let p = entry c .pre in own-notes (p .0) (c .gather .ensures) (p .1 .1 .0 .1) (omega arith) (omega arith)
+own c = let p = entry c .pre in own-notes (p .0 .packable) (c .gather .ensures) (p .1 .1 .0 .1) (omega arith) (omega arith)
 
 slice-read-positions : tie.Need-slice-read-positions
 slice-read-positions c =
@@ -42,7 +42,7 @@ mul-span c = search needs
 cast-spans : tie.Need-cast-spans
 cast-spans c =
     let p = entry (c .before .before .before .before .before) .pre in
-    omega (arith, short (p .0), p .1 .1 .1)
+    omega (arith, short (p .0 .packable), p .1 .1 .1)
 
 mul-spans : tie.Need-mul-spans
 mul-spans c = search needs
@@ -66,7 +66,7 @@ pack-variable-requires c κs =
     let took = c .before .before .before .before .before .before .before .before in
     let p = entry took .pre in
     let notes = own took in
-    ((p .0 .sound, notes .within, notes .some, p .0 .positive), omega (arith, notes .first, p .1 .0 .of-sets, p .1 .1 .1))
+    ((p .0 .packable .sound, p .0 .covers, notes .within, notes .some), omega (arith, notes .first, p .1 .0 .of-sets, p .1 .1 .1))
 
 -- what is packed with the variable is within the heading
 fits : (c : tie.After-slice-known8)
@@ -75,7 +75,7 @@ fits : (c : tie.After-slice-known8)
 fits c =
     let took = c .before .before .before .before .before .before .before .before .before .before .before in
     let p = entry took .pre in
-    omega (arith, own took .first, short (p .0), p .1 .1 .1)
+    omega (arith, own took .first, short (p .0 .packable), p .1 .1 .1)
 
 cast-t52 : tie.Need-cast-t52
 cast-t52 c = omega (arith, fits c)
@@ -111,14 +111,14 @@ lacking-is : (c : tie.Joined1)
 lacking-is c = elim (c .if1 .came) [ inl w ↦ rw (w .0 .taken) (w .1) | inr w ↦ rw (w .0 .left) (w .2 ∙ w .1 .ensures) ]
 
 returns : tie.Need-returns
-returns c =
+returns c cut known =
     let met = c .before .before in
     let found = met .before .before .before in
     let took = found .before .before .before .before .before .before .before .before .before in
     let a = entry took .args in
     let p = entry took .pre in
     let notes = own took in
-    noted-next notes (found .pack-variable .ensures _ (notes .gathered)) refl (lacking-is met) (c .before .lesser2 .ensures) (c .lesser3 .ensures)
+    noted-next notes (found .pack-variable .ensures _ cut (notes .gathered) known) refl (lacking-is met) (c .before .lesser2 .ensures) (c .lesser3 .ensures)
     (over-two (a .spans .now) (spanWidth * a .v) (a .search .packed) _ (omega (arith, p .1 .0 .of-spans, p .1 .1 .0 .0)))
 
 pub pack-next-spec : {M : Type 1} → statement M

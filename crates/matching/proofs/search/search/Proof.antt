@@ -18,23 +18,23 @@ fitting s = let a = s .args in fit (now (a .table)) (now (a .pattern)) (now (a .
 
 -- a clash that the walk over both lists found
 clashes : (c : tie.After-known-told)
-    → let a = c .before .before .before .before .before .before .before .before .before .before .before .before .before .before .before .before .before .before .before .args in clash (tableIn (now (a .table))) (a .cut) (facesIn (now (a .table)) (now (a .pattern)) (now (a .heading))) ≡ just (c .before .node .given .0 .0)
+    → let a = c .before .before .before .before .before .before .before .before .before .before .before .before .before .before .before .before .before .before .before .before .args in clash (tableIn (now (a .table))) (a .cut) (facesIn (now (a .table)) (now (a .pattern)) (now (a .heading))) ≡ just (c .before .node .given .0 .0)
 clashes c =
-    let a = c .before .before .before .before .before .before .before .before .before .before .before .before .before .before .before .before .before .before .before .args in
+    let a = c .before .before .before .before .before .before .before .before .before .before .before .before .before .before .before .before .before .before .before .before .args in
     clash-told (now (a .table)) (a .cut) (now (a .pattern)) (now (a .heading)) _ _ (c .before .node .given .1) (c .before .before .before .before .before .before .before .face .ensures)
 
 face-requires : tie.Need-face-requires
 face-requires c κs =
-    let s = c .before .before .before .before .before .before .before .before .before .before .before in
+    let s = c .before .before .before .before .before .before .before .before .before .before .before .before in
     let f = fitting s in
-    (f .sound, (f .pattern-reads, (f .heading-reads, (f .positive, s .pre .1 .0 .0, s .pre .1 .0 .1))))
+    (f .sound, (f .pattern-reads, (f .heading-reads, (f .positive, s .pre .1 .1 .0 .0, s .pre .1 .1 .0 .1))))
 
 enum-known-node : tie.Need-enum-known-node
 enum-known-node c = search needs
 
-cast-t19 : tie.Need-cast-t19
-cast-t19 c =
-    let s = c .before .before .before .before .before .before .before .before .before .before .before .before .before .before .before .before .before .before .before in
+cast-t20 : tie.Need-cast-t20
+cast-t20 c =
+    let s = c .before .before .before .before .before .before .before .before .before .before .before .before .before .before .before .before .before .before .before .before in
     let a = s .args in
     omega (arith, clash-inside (now (a .table)) (now (a .pattern)) (now (a .heading)) (a .cut) (now (a .spans)) (now (a .sets)) (s .pre .0) _ (clashes c))
 
@@ -46,21 +46,24 @@ enum-known-least c = search needs
 
 search-variables-requires : tie.Need-search-variables-requires
 search-variables-requires c κs =
-    let s = c .before .before .before .before .before .before .before .before .before .before .before .before .before .before .before .before .before .before .before .before .before .before .before .before .before in
+    let s = c .before .before .before .before .before .before .before .before .before .before .before .before .before .before .before .before .before .before .before .before .before .before .before .before .before .before .before in
     let a = s .args in
     let f = fitting s in
-    let faced = c .before .before .before .before .before .before .before .before .before .before .before .before .before .face in (
+    let faced = c .before .before .before .before .before .before .before .before .before .before .before .before .before .before .face in (
       s .pre .0,
       (
-        clear-told (now (a .table)) (a .cut) (now (a .pattern)) (now (a .heading)) _ _ (c .before .before .before .before .before .before .before .least .given .1) (faced .ensures),
-        record {
-          of-starts = omega (arith, faced .kept .1 .1 .1 .1 .0, s .pre .1 .0 .0);
-          of-sizes = omega (arith, faced .kept .1 .1 .1 .1 .1 .0, s .pre .1 .0 .1);
-          of-own-starts = s .pre .1 .1 .0;
-          of-own-sizes = s .pre .1 .1 .1;
-          of-spans = f .spans-room;
-          of-sets = f .sets-room;
-        },
+        s .pre .1 .0,
+        (
+          clear-told (now (a .table)) (a .cut) (now (a .pattern)) (now (a .heading)) _ _ (c .before .before .before .before .before .before .before .before .least .given .1) (faced .ensures),
+          record {
+            of-starts = omega (arith, faced .kept .1 .1 .1 .1 .0, s .pre .1 .1 .0 .0);
+            of-sizes = omega (arith, faced .kept .1 .1 .1 .1 .1 .0, s .pre .1 .1 .0 .1);
+            of-own-starts = s .pre .1 .1 .1 .0;
+            of-own-sizes = s .pre .1 .1 .1 .1;
+            of-spans = f .spans-room;
+            of-sets = f .sets-room;
+          },
+        ),
       ),
     )
 
@@ -78,7 +81,7 @@ same-length-4 c = search needs
 
 returns : tie.Need-returns
 returns c =
-    let s = c .before .before .before .before .before .before .before .before .before .before .before .before .before .before .before .before .before .before .before .before .before .before .before .before .before .before in
+    let s = c .before .before .before .before .before .before .before .before .before .before .before .before .before .before .before .before .before .before .before .before .before .before .before .before .before .before .before in
     let a = s .args in
     c .before .before .before .before .refuse .ensures
     ∙ sym (clash-ends (now (a .table)) (now (a .pattern)) (now (a .heading)) (a .cut) (now (a .spans)) (now (a .sets)) (s .pre .0) _ (clashes (c .before .before .before .before .before .before .before)))
@@ -101,6 +104,9 @@ same-length-9 c = search needs
 same-length-10 : tie.Need-same-length-10
 same-length-10 c = search needs
 
+same-length-11 : tie.Need-same-length-11
+same-length-11 c = search needs
+
 returns-2 : tie.Need-returns-2
 returns-2 c = search needs
 
@@ -110,7 +116,7 @@ search-spec =
     (tie.spec
     face-requires
     enum-known-node
-    cast-t19
+    cast-t20
     refuse-requires
     enum-known-least
     search-variables-requires
@@ -125,4 +131,5 @@ search-spec =
     same-length-8
     same-length-9
     same-length-10
+    same-length-11
     returns-2)

@@ -1,5 +1,7 @@
--- As many nodes as the memory lent has room for.
+-- As many nodes, and as many symbols, as the memory lent has room for.
 use borrow.Author.Needs.{needs}
+use mathlib.Core.Path.{refl}
+use native.Mathlib.Omega.{arith}
 use Rattle.matching.proofs.search.search_small.Statement.{statement}
 use Rattle.matching.proofs.search.search_small.Tie as tie
 
@@ -15,11 +17,14 @@ slice-aggregate-search-3 c = search needs
 slice-aggregate-search-4 : tie.Need-slice-aggregate-search-4
 slice-aggregate-search-4 c = search needs
 
+slice-aggregate-search-5 : tie.Need-slice-aggregate-search-5
+slice-aggregate-search-5 c = search needs
+
 search-requires : tie.Need-search-requires
 search-requires c κs =
-    let s = c .before .before .before .before .before .before .before .before .before .before .before in
-    let few = s .pre .0 in
-    (s .pre .1, ((few, few), (few, few)))
+    let s = c .before .before .before .before .before .before .before .before .before .before .before .before in
+    let few = s .pre .0 .0 in
+    (s .pre .1, (record { room = omega (arith, s .pre .0 .1); zero = refl }, ((few, few), (few, few))))
 
 same-length : tie.Need-same-length
 same-length c = search needs
@@ -38,6 +43,7 @@ search-small-spec =
     slice-aggregate-search-2
     slice-aggregate-search-3
     slice-aggregate-search-4
+    slice-aggregate-search-5
     search-requires
     same-length
     same-length-2

@@ -1,9 +1,11 @@
 -- Inside the subterm the symbols are those near to its node, and past its end there are none, since what is no symbol has degree 0.
 use borrow.Author.Needs.{needs}
+use mathlib.Core.Path.{_≡_}
+use Prim.Native.Nat.{_+_}
 use native.Mathlib.Omega.{arith}
-use Rattle.meaning.specs.File.{tableIn}
-use Rattle.meaning.proofs.Sound.{sound}
-use Rattle.positions.proofs.Standing.{near-inside, near-past}
+use lib.ListN.{length}
+use Rattle.meaning.specs.Limits.{setWords}
+use Rattle.positions.proofs.Standing.{near-members, near-inside, near-past}
 use Rattle.positions.proofs.position.near_at.Statement.{statement}
 use Rattle.positions.proofs.position.near_at.Tie as tie
 
@@ -11,24 +13,26 @@ empty-requires : tie.Need-empty-requires
 empty-requires c κs = search needs
 
 returns : tie.Need-returns
-returns c = near-past (sound _ (c .before .before .before .before .pre .0) .lawful) _ _ _ _ _ _ (omega arith) (omega arith) (c .empty .ensures)
+returns c T cut known = near-past (known .lawful) _ _ _ _ cut _ (known .positive) (omega arith) (c .empty .ensures)
 
-add-near : tie.Need-add-near
-add-near c = search needs
+add-set-of : tie.Need-add-set-of
+add-set-of c = search needs
 
-mul-near : tie.Need-mul-near
-mul-near c = search needs
+mul-set-of : tie.Need-mul-set-of
+mul-set-of c = search needs
 
-shared-slice-read-near : tie.Need-shared-slice-read-near
-shared-slice-read-near c = search needs
+shared-slice-read-set-of : tie.Need-shared-slice-read-set-of
+shared-slice-read-set-of c = search needs
 
-near-requires : tie.Need-near-requires
-near-requires c κs = search needs
+set-of-requires : tie.Need-set-of-requires
+set-of-requires c κs =
+    let s = c .before .before .before .before in
+    s .pre .0 (s .args .start + s .args .k) (omega (arith, s .pre .1))
 
 returns-2 : tie.Need-returns-2
-returns-2 c =
-    let a = c .before .before .before .before .before .args in
-    near-inside (tableIn (a .table .now)) _ _ _ _ _ _ (omega arith) (c .near .ensures)
+returns-2 c T cut known =
+    let n : length (c .set-of .result .words) ≡ setWords = search needs in
+    near-inside T _ _ _ _ _ _ (omega arith) (near-members known _ _ n (c .set-of .ensures))
 
 pub near-at-spec : {M : Type 1} → statement M
 near-at-spec =
@@ -36,8 +40,8 @@ near-at-spec =
     (tie.spec
     empty-requires
     returns
-    add-near
-    mul-near
-    shared-slice-read-near
-    near-requires
+    add-set-of
+    mul-set-of
+    shared-slice-read-set-of
+    set-of-requires
     returns-2)

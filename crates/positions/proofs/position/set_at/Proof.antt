@@ -2,21 +2,20 @@
 -- contract itself, with the subterms passed for the count.
 use borrow.Author.Needs.{needs}
 use mathlib.Core.Path.{_≡_}
-use Prim.Native.Nat.{_≤_, _-_}
+use Prim.Native.Nat.{ℕ, _≤_, _-_}
 use native.Mathlib.Omega.{arith}
-use Rattle.meaning.specs.File.{tableIn}
-use Rattle.meaning.proofs.Sound.{sound}
-use Rattle.positions.specs.Facing.{SetAt}
+use Rattle.theory.specs.Table.{Table}
+use Rattle.positions.specs.Facing.{NearOf, SetAt}
 use Rattle.positions.proofs.Standing.{set-first, set-next}
 use Rattle.positions.proofs.position.set_at.Statement.{statement}
 use Rattle.positions.proofs.position.set_at.Tie as tie
 
 abbrev Inv-loop : tie.InvT-loop
-Inv-loop table heading starts sizes count k cut set₀ o₀ set o =
-    (o ≤ count) × SetAt (tableIn table) heading starts sizes k cut o (set .words)
+Inv-loop near heading starts sizes count k set₀ o₀ set o =
+    (o ≤ count) × ((T : Table) (cut : ℕ) → NearOf T cut near → SetAt T heading starts sizes k cut o (set .words))
 
 abbrev μ-loop : tie.MeasureT-loop
-μ-loop table heading starts sizes count k cut set₀ o₀ set o = count - o
+μ-loop near heading starts sizes count k set₀ o₀ set o = count - o
 
 shared-slice-read-near-at : tie.Need-shared-slice-read-near-at Inv-loop μ-loop
 shared-slice-read-near-at c = search needs
@@ -27,12 +26,11 @@ shared-slice-read-near-at-2 c = search needs
 near-at-requires : tie.Need-near-at-requires Inv-loop μ-loop
 near-at-requires c κs =
     let p = c .before .before .before .before .before .before .pre in
-    (p .0, p .1 .ends 0 (p .2), p .3)
+    (p .0, p .1 .ends 0 (p .2))
 
 loop-holds : tie.Need-loop-holds Inv-loop μ-loop
 loop-holds c =
-    let p = c .before .before .before .before .before .before .before .pre in
-    (omega arith, set-first (sound _ (p .0) .lawful) _ _ _ _ _ _ (c .near-at .ensures))
+    (omega arith, λ T cut known. set-first (known .lawful) _ _ _ _ cut _ (c .near-at .ensures T cut known))
 
 mul-near-at : tie.Need-mul-near-at Inv-loop μ-loop
 mul-near-at c = search needs
@@ -49,7 +47,7 @@ shared-slice-read-near-at-4 c = search needs
 near-at-requires-2 : tie.Need-near-at-requires-2 Inv-loop μ-loop
 near-at-requires-2 c κs =
     let p = c .before .before .before .before .before .before .before .before .before .before .before .pre in
-    (p .0, p .1 .ends (c .before .before .before .loop .o) (omega arith), p .3)
+    (p .0, p .1 .ends (c .before .before .before .loop .o) (omega arith))
 
 intersect-requires : tie.Need-intersect-requires Inv-loop μ-loop
 intersect-requires c κs = search needs
@@ -62,9 +60,8 @@ loop-less c = search needs
 
 loop-again : tie.Need-loop-again Inv-loop μ-loop
 loop-again c =
-    let p = c .before .before .before .before .before .before .before .before .before .before .before .before .before .pre in
     let before = c .before .before .before .before .before .loop .inv .1 in
-    (omega arith, set-next (sound _ (p .0) .lawful) _ _ _ _ _ _ _ _ _ (c .before .near-at2 .ensures) (c .intersect .ensures) before)
+    (omega arith, λ T cut known. set-next (known .lawful) _ _ _ _ cut _ _ _ _ (c .before .near-at2 .ensures T cut known) (c .intersect .ensures) (before T cut known))
 
 returns : tie.Need-returns Inv-loop μ-loop
 returns c =

@@ -4,7 +4,7 @@ use mathlib.Core.Path.{_≡_, refl, ap, _∙_}
 use mathlib.Core.Logic.{inl, inr}
 use mathlib.Core.List.{List}
 use mathlib.Core.Bool.{false, cond}
-use Prim.Native.Nat.{_≤_, _-_, min}
+use Prim.Native.Nat.{ℕ, _≤_, _-_, min}
 use native.Mathlib.Omega.{arith}
 use lib.ListN.{length}
 use Rattle.theory.specs.Tree.{Term}
@@ -14,19 +14,20 @@ use Rattle.meaning.specs.Limits.{setWords}
 use Rattle.meaning.specs.File.{tableIn}
 use Rattle.sets.specs.Words.{Words}
 use Rattle.sets.proofs.Laws.{words-of}
+use Rattle.positions.specs.Facing.{NearOf}
 use Rattle.positions.specs.Variable.{PackedTo}
 use Rattle.positions.proofs.Positions.{positions-first, packed-none, packed-next}
 use Rattle.positions.proofs.variable.pack_variable.Statement.{statement}
 use Rattle.positions.proofs.variable.pack_variable.Tie as tie
 
 abbrev Inv-loop : tie.InvT-loop
-Inv-loop table heading starts sizes count cut at sets₀ formed₀ lowest₀ highest₀ k₀ k-end sets formed lowest highest k =
+Inv-loop table near heading starts sizes count at sets₀ formed₀ lowest₀ highest₀ k₀ k-end sets formed lowest highest k =
     (k ≤ k-end)
     × (length sets ≡ length sets₀)
-    × ((ts : List Term) → Gathered heading starts sizes count ts → PackedTo (tableIn table) cut ts at k sets₀ sets formed lowest highest)
+    × ((ts : List Term) (cut : ℕ) → Gathered heading starts sizes count ts → NearOf (tableIn table) cut near → PackedTo (tableIn table) cut ts at k sets₀ sets formed lowest highest)
 
 abbrev μ-loop : tie.MeasureT-loop
-μ-loop table heading starts sizes count cut at sets₀ formed₀ lowest₀ highest₀ k₀ k-end sets formed lowest highest k =
+μ-loop table near heading starts sizes count at sets₀ formed₀ lowest₀ highest₀ k₀ k-end sets formed lowest highest k =
     k-end - k
 
 shared-slice-read-k-end : tie.Need-shared-slice-read-k-end Inv-loop μ-loop
@@ -36,7 +37,7 @@ cast-k-end : tie.Need-cast-k-end Inv-loop μ-loop
 cast-k-end c = search needs
 
 loop-holds : tie.Need-loop-holds Inv-loop μ-loop
-loop-holds c = (omega arith, refl, λ ts g. packed-none _ _ ts _ _)
+loop-holds c = (omega arith, refl, λ ts cut g known. packed-none _ _ ts _ _)
 
 set-at-requires : tie.Need-set-at-requires Inv-loop μ-loop
 set-at-requires c κs = search needs
@@ -62,7 +63,7 @@ lesser-requires-2 c κs = search needs
 add-k : tie.Need-add-k Inv-loop μ-loop
 add-k c =
     let turn = c .before .before .before .before .before .before .before .before .before .before in
-    omega (arith, turn .loop-test .taken, turn .before .before .shared-slice-known5 .given 0)
+    omega (arith, turn .loop-test .taken, turn .before .before .shared-slice-known6 .given 0)
 
 loop-less : tie.Need-loop-less Inv-loop μ-loop
 loop-less c = search needs
@@ -81,18 +82,18 @@ loop-again c =
     let put = met .before .before .before .before in
     let chosen = put .before .before in
     let turn = chosen .before in
-    let start = turn .before .before .before .before .before .before .before .before in
+    let start = turn .before .before .before .before .before .before .before .before .before in
     let a = start .args in
     let loop = turn .before .loop in
     let set = chosen .set-at in
     let empty = met .before .is-empty in (
       omega arith,
       put .put-set .kept .0 ∙ loop .inv .1,
-      λ ts g.
-          let is = set .ensures ts g in
-          let degrees = c .before .before .degrees-at .ensures ts (a .cut) g is in
-          packed-next (tableIn (a .table .now)) (a .cut) ts (a .at) (a .sets .now) (loop .k) (set .result .words) (empty .result)
-          (loop .inv .2 ts g) (omega (arith, start .pre .1)) (set-words chosen) is (put .put-set .ensures) (empty .ensures) (form-is met)
+      λ ts cut g known.
+          let is = set .ensures (tableIn (a .table .now)) cut known ts g in
+          let degrees = c .before .before .degrees-at .ensures ts cut g is in
+          packed-next (tableIn (a .table .now)) cut ts (a .at) (a .sets .now) (loop .k) (set .result .words) (empty .result)
+          (loop .inv .2 ts cut g known) (omega (arith, start .pre .1)) (set-words chosen) is (put .put-set .ensures) (empty .ensures) (form-is met)
           (c .before .lesser .ensures ∙ ap (min (loop .lowest)) (degrees .0))
           (c .lesser2 .ensures ∙ ap (min (loop .highest)) (degrees .1)),
     )
@@ -101,10 +102,10 @@ same-length : tie.Need-same-length Inv-loop μ-loop
 same-length c = search needs
 
 returns : tie.Need-returns Inv-loop μ-loop
-returns c ts g =
-    let p = c .before .before .before .before .before .before .before .before .pre in
-    let e : c .before .loop .k ≡ positions ts = omega (arith, positions-first g (p .0 .2)) in
-    rw e at (c .before .loop .inv .2 ts g)
+returns c ts cut g known =
+    let p = c .before .before .before .before .before .before .before .before .before .pre in
+    let e : c .before .loop .k ≡ positions ts = omega (arith, positions-first g (p .0 .3)) in
+    rw e at (c .before .loop .inv .2 ts cut g known)
 
 pub pack-variable-spec : {M : Type 1} → statement M
 pack-variable-spec =
