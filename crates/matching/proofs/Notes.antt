@@ -19,14 +19,14 @@ use Rattle.theory.proofs.Decoding.{heading-of}
 use Rattle.theory.proofs.Draw.{over-at}
 use Rattle.theory.proofs.Gathered.{at-node}
 use Rattle.theory.proofs.Along.{Readable, Faced}
-use Rattle.meaning.specs.Limits.{setWords, spanWidth}
+use Rattle.meaning.specs.Limits.{spanWidth}
 use Rattle.meaning.specs.File.{tableIn}
 use Rattle.meaning.specs.Packing.{countOf}
 use Rattle.meaning.specs.Calls.{facesIn}
 use Rattle.meaning.specs.Search.{symbolWorth}
 use Rattle.meaning.specs.Over.{over}
 use Rattle.meaning.proofs.Sound.{sound}
-use Rattle.table.specs.Near.{NearSets}
+use Rattle.table.specs.Near.{nearWords, NearSets}
 use Rattle.facing.specs.Faced.{ClearBy}
 use Rattle.positions.specs.Facing.{Within, Covers, NearOf}
 use Rattle.facing.specs.Gathering.{GatheredBy}
@@ -78,9 +78,9 @@ module _ {table pattern heading : List ℕ} {cut : ℕ} {starts sizes : List ℕ
   pub short : length heading ≤ 1024
   short = few-nodes reads
 
-  -- LAW: the near sets of all symbols are enough, for every node of the heading is a symbol
-  pub covers : (near : List ℕ) → setWords * tableIn table .size ≤ length near → Covers heading near
-  covers near room i l =
+  -- LAW: every node of the heading is a symbol
+  symbols : (i : ℕ) → i < length heading → getD heading i 0 < tableIn table .size
+  symbols i l =
       let T = tableIn table in
       let t = termOf T heading in
       let h = heading-of T (reads .small) heading (k .heading-reads) in
@@ -90,9 +90,22 @@ module _ {table pattern heading : List ℕ} {cut : ℕ} {starts sizes : List ℕ
       let here = ap (λ (j : ℕ). getD heading j 0) (zero-add i) in
       omega arith
 
-  -- LAW: gathered for this table, they are the near sets at the cut
-  pub near-of : (near : List ℕ) → NearSets (tableIn table) cut near → NearOf (tableIn table) cut near
-  near-of near sets = record { lawful = reads .lawful; small = sound table (k .sound) .small; positive = k .positive; sets = sets }
+  module _ (near : List ℕ) (sets : NearSets (tableIn table) cut near) where
+    -- LAW: so the near sets of all symbols are enough
+    pub covers : nearWords * tableIn table .size ≤ length near → Covers heading near
+    covers room i l = (omega (arith, symbols i l), sets .within (getD heading i 0))
+
+    -- LAW: gathered for this table, they are its near sets at the cut
+    pub near-of : NearOf (tableIn table) cut near heading
+    near-of =
+        record {
+          lawful = reads .lawful;
+          small = sound table (k .sound) .small;
+          positive = k .positive;
+          top = k .top;
+          sets = sets;
+          symbols = symbols;
+        }
 
   clear-by : ClearBy table cut pattern heading (least (symbolWorth (tableIn table)) (facesIn table pattern heading)) starts sizes
   clear-by = record { clear = k .clear; lowest = refl; noted = k .noted }

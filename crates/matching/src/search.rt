@@ -144,7 +144,7 @@ fn search_small(
 {
     let mut starts = [0u16; 64];
     let mut sizes = [0u16; 64];
-    let mut near = [0u64; 64];
+    let mut near = [0u64; 80];
     let mut own_starts = [0u16; 64];
     let mut own_sizes = [0u16; 64];
     search(
@@ -176,7 +176,7 @@ fn search_large(
 {
     let mut starts = [0u16; 1024];
     let mut sizes = [0u16; 1024];
-    let mut near = [0u64; 1024];
+    let mut near = [0u64; 1280];
     let mut own_starts = [0u16; 1024];
     let mut own_sizes = [0u16; 1024];
     search(

@@ -19,20 +19,21 @@ use Rattle.theory.proofs.Lemmas.{most, fewest}
 use Rattle.theory.proofs.Growing.{shared-more, set-more}
 use Rattle.theory.proofs.Gathered.{at-node, at-past}
 use Rattle.meaning.specs.Limits.{setWords, setRoom}
-use Rattle.meaning.specs.Buffers.{member, holds}
+use Rattle.meaning.specs.Buffers.{member}
 use Rattle.meaning.proofs.Rated.{lowest-top}
 use Rattle.sets.proofs.Laws.{none-past}
+use Rattle.table.specs.Near.{inNear}
 use Rattle.positions.specs.Facing.{NearOf, DegreeAt, NearAt, SharedAt, SetAt, DegreesAt}
 
 -- ---- one near set
 
 -- LAW: the words of the set of h are the symbols near to h
-pub near-members : {T : Table} {cut : ℕ} {near : List ℕ} → NearOf T cut near → (h : ℕ) (words : List ℕ) → length words ≡ setWords
-    → ((k : ℕ) → k < setRoom → member words k ≡ holds near h k) → (s : ℕ) → member words s ≡ (ltb s (T .size) && leb cut (T .deg s h))
+pub near-members : {T : Table} {cut : ℕ} {near list : List ℕ} → NearOf T cut near list → (h : ℕ) (words : List ℕ) → length words ≡ setWords
+    → ((k : ℕ) → k < setRoom → member words k ≡ inNear near h k) → (s : ℕ) → member words s ≡ (ltb s (T .size) && leb cut (T .deg s h))
 near-members {T} {cut} known h words four same s = go (decLt s setRoom)
   where
     go : Dec (s < setRoom) → member words s ≡ (ltb s (T .size) && leb cut (T .deg s h))
-    go (yes l) = same s l ∙ known .sets h s l
+    go (yes l) = same s l ∙ known .sets .has h s l
     go (no l) = rw (le-ltb s (T .size) (omega (arith, known .small))) (none-past setWords words four s (omega arith))
 
 -- ---- one subterm
@@ -157,5 +158,5 @@ module _ (T : Table) (list starts sizes : List ℕ) (k n : ℕ) (words : List �
       rw (add-one, e) (omega (arith, lowest-top m (λ s. cond (member words s) (shared T ts k s) 1000)), omega arith)
 
   -- LAW: a set has no symbol but the table's
-  pub rated-all : (low high : ℕ) → RatedBelow (T .size) low high → DegreesAt T list starts sizes k words n low high
-  rated-all low high h ts cut g is = simp is at (h ts g)
+  pub rated-all : (low high : ℕ) → RatedBelow (T .size) low high → (cut : ℕ) → DegreesAt T list starts sizes k cut words n low high
+  rated-all low high h cut ts g is = simp is at (h ts g)

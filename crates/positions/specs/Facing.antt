@@ -3,16 +3,16 @@
 use mathlib.Core.Path.{_≡_}
 use mathlib.Core.List.{List}
 use mathlib.Core.Bool.{_&&_}
-use Prim.Native.Nat.{ℕ, _+_, _*_, _≤_, _<_}
+use Prim.Native.Nat.{ℕ, _+_, _≤_, _<_}
 use lib.Dec.{ltb, leb}
 use lib.ListN.{length, getD}
 use Rattle.theory.specs.Tree.{Term}
 use Rattle.theory.specs.Table.{Table, Lawful}
 use Rattle.theory.specs.Stands.{StandsAt, Gathered}
 use Rattle.theory.specs.Match.{at, shared, inSet, lowestAt, highestAt}
-use Rattle.meaning.specs.Limits.{setWords, setRoom}
+use Rattle.meaning.specs.Limits.{setRoom}
 use Rattle.meaning.specs.Buffers.{member}
-use Rattle.table.specs.Near.{NearSets}
+use Rattle.table.specs.Near.{Kept, NearSets}
 
 -- the first n starts and sizes are there, and each stays inside the list
 pub record Within (list starts sizes : List ℕ) (n : ℕ) : Type 0 where
@@ -22,14 +22,16 @@ pub record Within (list starts sizes : List ℕ) (n : ℕ) : Type 0 where
 
 -- there is a near set for each number of the list
 abbrev pub Covers : List ℕ → List ℕ → Type 0
-Covers list near = (i : ℕ) → i < length list → setWords * (getD list i 0 + 1) ≤ length near
+Covers list near = (i : ℕ) → i < length list → Kept near (getD list i 0)
 
--- the near sets are those of a table of symbols at a cut
-pub record NearOf (T : Table) (cut : ℕ) (near : List ℕ) : Type 0 where
+-- the near sets are those of a table at a cut, and the numbers of the list are its symbols
+pub record NearOf (T : Table) (cut : ℕ) (near list : List ℕ) : Type 0 where
   pub lawful : Lawful T
   pub small : T .size ≤ setRoom
   pub positive : 0 < cut
+  pub top : cut ≤ 1000
   pub sets : NearSets T cut near
+  pub symbols : (i : ℕ) → i < length list → getD list i 0 < T .size
 
 -- ---- at position k of the subterm from index `start` on
 
@@ -54,8 +56,8 @@ module _ (T : Table) (list starts sizes : List ℕ) (k : ℕ) where
   abbrev pub SetAt : ℕ → ℕ → List ℕ → Type 0
   SetAt cut n words = (ts : List Term) → Gathered list starts sizes n ts → (s : ℕ) → member words s ≡ inSet T cut ts k s
 
-  -- `low` and `high` are the lowest and the highest degree there, if the words are the set at some cut
-  abbrev pub DegreesAt : List ℕ → ℕ → ℕ → ℕ → Type 0
-  DegreesAt words n low high =
-      (ts : List Term) (cut : ℕ) → Gathered list starts sizes n ts → ((s : ℕ) → member words s ≡ inSet T cut ts k s)
+  -- `low` and `high` are the lowest and the highest degree there at a cut, if the words are the set
+  abbrev pub DegreesAt : ℕ → List ℕ → ℕ → ℕ → ℕ → Type 0
+  DegreesAt cut words n low high =
+      (ts : List Term) → Gathered list starts sizes n ts → ((s : ℕ) → member words s ≡ inSet T cut ts k s)
       → (low ≡ lowestAt T cut ts k) × (high ≡ highestAt T cut ts k)

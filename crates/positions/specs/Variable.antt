@@ -26,5 +26,5 @@ module _ (T : Table) (near list starts sizes : List ℕ) (count start : ℕ) (be
   -- all positions are, of whatever terms stand there, at whatever cut the near sets are of
   abbrev pub VariablePacked : Found → Type 0
   VariablePacked r =
-      (ts : List Term) (cut : ℕ) → Gathered list starts sizes count ts → NearOf T cut near
+      (ts : List Term) (cut : ℕ) → Gathered list starts sizes count ts → NearOf T cut near list
       → PackedTo T cut ts start (positions ts) before after (r .formed) (r .lowest) (r .highest)

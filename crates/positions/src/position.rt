@@ -3,13 +3,14 @@
 // The o-th of them begins at index `starts[o]` of the heading and has `sizes[o]` nodes.
 ghost use mathlib.Core.Path.{_≡_};
 ghost use Prim.Native.Nat.{ℕ, _+_, _<_, _≤_, min, max};
-ghost use lib.ListN.{length};
+ghost use lib.ListN.{length, getD};
 ghost use Rattle.theory.specs.Table.{Table};
 ghost use Rattle.meaning.specs.File.{tableIn};
 ghost use Rattle.meaning.specs.Refusals.{SoundFile};
 ghost use Rattle.positions.specs.Facing.{Within, Covers, NearOf, DegreeAt, NearAt, SharedAt, SetAt, DegreesAt};
 use sets::SymbolSet;
 use table::degree::degree;
+use table::near::lowest_of;
 use table::near::set_of;
 use table::read::symbol_count;
 
@@ -28,7 +29,7 @@ pub fn greater(a: u16, b: u16) -> u16
 // The symbols near enough to what stands at position k of one subterm, by the near sets of all symbols.
 fn near_at(near: &[u64], heading: &[u16], start: u16, size: u16, k: usize) -> SymbolSet
     requires { ⌜ Covers (now heading) (now near) × (start + size ≤ length (now heading)) ⌝ }
-    ensures { λ r. ⌜ ((T : Table) (cut : ℕ) → NearOf T cut (now (near .entry)) → NearAt T (now (heading .entry)) start size k cut (r .words)) ⌝ }
+    ensures { λ r. ⌜ ((T : Table) (cut : ℕ) → NearOf T cut (now (near .entry)) (now (heading .entry)) → NearAt T (now (heading .entry)) start size k cut (r .words)) ⌝ }
 {
     // past its end there is no symbol
     if k >= size as usize {
@@ -59,7 +60,7 @@ pub fn set_at(
     k: usize,
 ) -> SymbolSet
     requires { ⌜ Covers (now heading) (now near) × Within (now heading) (now starts) (now sizes) count × (0 < count) ⌝ }
-    ensures { λ r. ⌜ ((T : Table) (cut : ℕ) → NearOf T cut (now (near .entry)) → SetAt T (now (heading .entry)) (now (starts .entry)) (now (sizes .entry)) k cut count (r .words)) ⌝ }
+    ensures { λ r. ⌜ ((T : Table) (cut : ℕ) → NearOf T cut (now (near .entry)) (now (heading .entry)) → SetAt T (now (heading .entry)) (now (starts .entry)) (now (sizes .entry)) k cut count (r .words)) ⌝ }
 {
     let mut set = near_at(near, heading, starts[0], sizes[0], k);
     for o in 1..count {
@@ -97,7 +98,7 @@ pub struct Degrees {
 }
 
 // The lowest and the highest degree that a symbol of the set shares.
-pub fn degrees_at(
+fn shared_degrees(
     table: &[u8],
     heading: &[u16],
     starts: &[u16],
@@ -107,7 +108,7 @@ pub fn degrees_at(
     set: SymbolSet,
 ) -> Degrees
     requires { ⌜ SoundFile (now table) × Within (now heading) (now starts) (now sizes) count ⌝ }
-    ensures { λ r. ⌜ DegreesAt (tableIn (now (table .entry))) (now (heading .entry)) (now (starts .entry)) (now (sizes .entry)) k (set .words) count (r .lowest) (r .highest) ⌝ }
+    ensures { λ r. ⌜ ((cut : ℕ) → DegreesAt (tableIn (now (table .entry))) (now (heading .entry)) (now (starts .entry)) (now (sizes .entry)) k cut (set .words) count (r .lowest) (r .highest)) ⌝ }
 {
     let symbols = symbol_count(table);
     let mut lowest: u16 = 1000;
@@ -120,4 +121,29 @@ pub fn degrees_at(
         }
     }
     Degrees { lowest, highest }
+}
+
+// The lowest and the highest degree at position k, where this is the set.
+pub fn degrees_at(
+    table: &[u8],
+    near: &[u64],
+    heading: &[u16],
+    starts: &[u16],
+    sizes: &[u16],
+    count: usize,
+    k: usize,
+    set: SymbolSet,
+) -> Degrees
+    requires { ⌜ SoundFile (now table) × Covers (now heading) (now near) × Within (now heading) (now starts) (now sizes) count × (0 < count) × (k < getD (now sizes) 0 0) ⌝ }
+    ensures { λ r. ⌜ ((cut : ℕ) → NearOf (tableIn (now (table .entry))) cut (now (near .entry)) (now (heading .entry)) → DegreesAt (tableIn (now (table .entry))) (now (heading .entry)) (now (starts .entry)) (now (sizes .entry)) k cut (set .words) count (r .lowest) (r .highest)) ⌝ }
+{
+    // with one subterm, the set is the near set of what stands there: its lowest degree is kept, and what stands there is in it
+    if count == 1 {
+        let symbol = heading[starts[0] as usize + k];
+        return Degrees {
+            lowest: lowest_of(near, symbol),
+            highest: 1000,
+        };
+    }
+    shared_degrees(table, heading, starts, sizes, count, k, set)
 }

@@ -58,7 +58,7 @@ pub fn pack_variable(
         if set.is_empty() {
             formed = false;
         }
-        let degrees = degrees_at(table, heading, starts, sizes, count, k, set);
+        let degrees = degrees_at(table, near, heading, starts, sizes, count, k, set);
         lowest = lesser(lowest, degrees.lowest);
         highest = lesser(highest, degrees.highest);
     }

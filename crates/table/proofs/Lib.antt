@@ -5,4 +5,5 @@ pub mod Rows
 pub mod Reading
 pub mod Halving
 pub mod Listed
+pub mod Joining
 pub mod Nearness

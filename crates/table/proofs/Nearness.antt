@@ -1,111 +1,30 @@
--- Near sets, gathered pair by pair: a symbol is in another's set exactly if a listed pair of both reaches the cut, for two symbols have no
--- degree but the one that is listed for them.
+-- Near sets, gathered pair by pair: a symbol is in another's set exactly if a listed pair of both reaches the cut, and the lowest degree in a
+-- set is the lowest of such pairs', for two symbols have no degree but the one that is listed for them.
 use mathlib.Core.Path.{_≡_, refl, sym as inv, ap, ap₂, _∙_, subst}
 use mathlib.Core.Logic.{inl, inr}
 use mathlib.Core.List.{List}
-use mathlib.Core.Bool.{Bool, true, false, _&&_, _||_, and-false, or-false, false≢true}
-use Prim.Native.Nat.{ℕ, zero, suc, _+_, _*_, _/_, _%_, _^_, _≤_, _<_}
+use mathlib.Core.Bool.{Bool, true, false, _&&_, _||_, cond, and-false, or-false, false≢true}
+use Prim.Native.Nat.{ℕ, _+_, _-_, _≤_, _<_, min, max}
 use native.Mathlib.Decide.{decLt, ℕ-discrete}
 use native.Mathlib.Numerals.{add-one}
 use native.Mathlib.Omega.{arith}
-use borrow.Author.Tests.{lt-ltb, le-ltb, le-leb, lt-leb, leb-true, eq-eqb, ne-eqb, eqb-true}
-use lib.Bits.{bitOr}
+use borrow.Author.Tests.{lt-ltb, le-ltb, le-leb, ltb-true, leb-true, eq-eqb, ne-eqb, eqb-true}
 use lib.Dec.{ltb, leb, eqb}
-use lib.ListN.{length, getD, set}
-use lib.Seq.{getD-set-same, getD-set-other}
-use Rattle.theory.specs.Least.{some}
+use lib.ListN.{getD}
+use Rattle.theory.specs.Least.{some, lowest}
 use Rattle.theory.specs.Table.{Table}
 use Rattle.theory.specs.Pairs.{Pair, pair, isPair, SoundPair}
-use Rattle.theory.proofs.Lemmas.{some-of, the-most, and-true, and-left, and-right, or-right}
-use Rattle.meaning.specs.Limits.{wordBits, setWords, setRoom}
-use Rattle.meaning.specs.File.{pairCount, aritiesIn, pairsIn, pairAt, tableIn}
+use Rattle.theory.proofs.Lemmas.{some-of, the-most, and-true, and-left, and-right, or-right, lowest-le, le-lowest}
+use Rattle.meaning.specs.Limits.{setRoom}
+use Rattle.meaning.specs.File.{pairCount, pairAt, aritiesIn, pairsIn, tableIn}
 use Rattle.meaning.specs.Refusals.{SoundFile}
 use Rattle.meaning.specs.Tables.{pairStart, lowerAt, higherAt, degreeAt}
-use Rattle.meaning.specs.Calls.{zeros}
-use Rattle.meaning.specs.Buffers.{bit, member, holds}
-use Rattle.meaning.proofs.Bits.{bit-zero, getD-zeros}
 use Rattle.meaning.proofs.Bytes.{pair-in}
 use Rattle.meaning.proofs.Sound.{sound}
 use Rattle.meaning.proofs.Degrees.{degree-listed, degree-others}
-use Rattle.sets.proofs.Word.{or-bit, bit-power}
+use Rattle.meaning.proofs.Rated.{lowest-top}
 use Rattle.table.proofs.Listed.{sound-at}
-use Rattle.table.specs.Near.{NearSets, OwnSets, Joined, PairJoined}
-
--- ---- one bit more
-
-module _ (sets : List ℕ) (h k : ℕ) (below : k < setRoom) (room : setWords * (h + 1) ≤ length sets) where
-  abbrev place : ℕ
-  place = setWords * h + k / wordBits
-
-  abbrev with-bit : List ℕ
-  with-bit = set sets place (bitOr (getD sets place 0) (2 ^ (k % wordBits)))
-
-  -- LAW: a bit set in the word of k among those of h
-  pub joined : Joined h k sets with-bit
-  unfolding holds
-  joined p j l = go (ℕ-discrete (setWords * p + j / wordBits) place)
-    where
-      same-bit : p ≡ h → j / wordBits ≡ k / wordBits → eqb (j % wordBits) (k % wordBits) ≡ (eqb p h && eqb j k)
-      same-bit e q = rw (eq-eqb p h e) (go (ℕ-discrete j k))
-        where
-          go : Dec (j ≡ k) → eqb (j % wordBits) (k % wordBits) ≡ eqb j k
-          go (yes e) = eq-eqb _ _ (ap (λ (i : ℕ). i % wordBits) e) ∙ inv (eq-eqb j k e)
-          go (no n) = ne-eqb (j % wordBits) (k % wordBits) (λ r. n (omega arith)) ∙ inv (ne-eqb j k n)
-
-      another : (setWords * p + j / wordBits ≡ place → ⊥) → (eqb p h && eqb j k) ≡ false
-      another n = go (ℕ-discrete p h) (ℕ-discrete j k)
-        where
-          go : Dec (p ≡ h) → Dec (j ≡ k) → (eqb p h && eqb j k) ≡ false
-          go (yes a) (yes b) = absurd (n (omega (arith, ap (λ (i : ℕ). i / wordBits) b)))
-          go (yes a) (no b) = rw (ne-eqb j k b) (and-false (eqb p h))
-          go (no a) b = rw (ne-eqb p h a)
-
-      go : Dec (setWords * p + j / wordBits ≡ place) → holds with-bit p j ≡ (holds sets p j || (eqb p h && eqb j k))
-      go (yes e) =
-          ap (λ (i : ℕ). bit (j % wordBits) (getD with-bit i 0)) e
-          ∙ ap (bit (j % wordBits)) (getD-set-same sets place _ 0 (omega arith))
-          ∙ or-bit (j % wordBits) (getD sets place 0) (2 ^ (k % wordBits))
-          ∙ ap₂ _||_ (ap (λ (i : ℕ). bit (j % wordBits) (getD sets i 0)) (inv e)) (bit-power (k % wordBits) (j % wordBits) ∙ same-bit (omega arith) (omega arith))
-      go (no n) = ap (bit (j % wordBits)) (getD-set-other sets place _ _ 0 n) ∙ inv (or-false _) ∙ ap (λ (b : Bool). holds sets p j || b) (inv (another n))
-
--- LAW: both symbols of a pair that reaches the cut, one after the other
-pub pair-joined : (cut lower higher degree : ℕ) (before middle after : List ℕ) → cut ≤ degree → Joined lower higher before middle → Joined higher lower middle after
-    → PairJoined cut (pair lower higher degree) before after
-pair-joined cut lower higher degree before middle after reaches one two p j l =
-    rw (le-leb cut degree reaches) (two p j l ∙ ap (λ (b : Bool). b || (eqb p higher && eqb j lower)) (one p j l) ∙ regroup (holds before p j) (eqb p lower && eqb j higher) (eqb p higher && eqb j lower))
-  where
-    regroup : (a b c : Bool) → ((a || b) || c) ≡ (a || (b || c))
-    regroup true b c = refl
-    regroup false b c = refl
-
--- LAW: a pair that does not reach it
-pub pair-passed : (cut lower higher degree : ℕ) (sets : List ℕ) → degree < cut → PairJoined cut (pair lower higher degree) sets sets
-pair-passed cut lower higher degree sets below p j l = rw (lt-leb cut degree below) (inv (or-false (holds sets p j)))
-
--- ---- the words of one set
-
--- LAW: the four words of h tell what its set holds
-pub words-hold : (sets : List ℕ) (h : ℕ) (words : List ℕ) → ((i : ℕ) → i < setWords → getD words i 0 ≡ getD sets (setWords * h + i) 0)
-    → (k : ℕ) → k < setRoom → member words k ≡ holds sets h k
-unfolding member holds
-words-hold sets h words same k l = ap (bit (k % wordBits)) (same (k / wordBits) (omega arith))
-
--- ---- own sets
-
--- LAW: in zeros there is no set
-pub own-none : (sets : List ℕ) → sets ≡ zeros (length sets) → OwnSets 0 sets
-unfolding holds
-own-none sets e h k l =
-    rw (le-ltb h 0 (omega arith)) (ap (λ (s : List ℕ). bit (k % wordBits) (getD s (setWords * h + k / wordBits) 0)) e ∙ ap (bit (k % wordBits)) (getD-zeros (length sets) _) ∙ bit-zero (k % wordBits))
-
--- LAW: the next symbol has joined its own
-pub own-next : (n : ℕ) (before after : List ℕ) → OwnSets n before → Joined n n before after → OwnSets (n + 1) after
-own-next n before after own more h k l = more h k l ∙ rw (own h k l) (go (decLt h n) (ℕ-discrete h n))
-  where
-    go : Dec (h < n) → Dec (h ≡ n) → ((ltb h n && eqb k h) || (eqb h n && eqb k n)) ≡ (ltb h (n + 1) && eqb k h)
-    go (yes a) b = rw (lt-ltb h n a, ne-eqb h n (λ e. omega arith), lt-ltb h (n + 1) (omega arith)) (or-false (eqb k h))
-    go (no a) (yes b) = rw (le-ltb h n (omega arith), eq-eqb h n b, lt-ltb h (n + 1) (omega arith)) (ap (eqb k) (inv b))
-    go (no a) (no b) = rw (le-ltb h n (omega arith), ne-eqb h n b, le-ltb h (n + 1) (omega arith))
+use Rattle.table.specs.Near.{inNear, farthest, isNear, NearSets, OwnSets, PairJoined}
 
 -- ---- pair by pair
 
@@ -114,19 +33,44 @@ module _ (file : List ℕ) (cut : ℕ) where
   abbrev brings : ℕ → ℕ → ℕ → Bool
   brings h k i = leb cut (degreeAt file i) && isPair (lowerAt file i) (higherAt file i) h k
 
-  -- the sets as the first n pairs make them
-  abbrev pub NearTo : ℕ → List ℕ → Type 0
-  NearTo n sets = (h k : ℕ) → k < setRoom → holds sets h k ≡ ((ltb h (tableIn file .size) && eqb k h) || some n (brings h k))
+  -- pair i is of h, and reaches the cut
+  abbrev touches : ℕ → ℕ → Bool
+  touches h i = leb cut (degreeAt file i) && (eqb h (lowerAt file i) || eqb h (higherAt file i))
 
-  pub near-none : (sets : List ℕ) → OwnSets (tableIn file .size) sets → NearTo 0 sets
-  near-none sets own h k l = own h k l ∙ inv (or-false _)
+  -- what pair i brings for the lowest degree in the set of h
+  abbrev brought : ℕ → ℕ → ℕ
+  brought h i = cond (touches h i) (degreeAt file i) 1000
+
+  -- the sets as the first n pairs make them
+  pub record NearTo (n : ℕ) (near : List ℕ) : Type 0 where
+    pub has : (h k : ℕ) → k < setRoom → inNear near h k ≡ ((ltb h (tableIn file .size) && eqb k h) || some n (brings h k))
+    pub within : (h : ℕ) → farthest near h ≤ 1000
+    pub low : (h : ℕ) → 1000 - farthest near h ≡ lowest n (brought h)
+
+  pub near-none : (near : List ℕ) → OwnSets (tableIn file .size) near → NearTo 0 near
+  near-none near own =
+      record {
+        has = λ h k l. own .has h k l ∙ inv (or-false _);
+        within = λ h. omega (arith, own .far h);
+        low = λ h. omega (arith, own .far h);
+      }
 
   -- LAW: one pair more
-  pub near-next : (n : ℕ) (read : Pair) (before after : List ℕ) → read ≡ pairAt file (pairStart file n) → NearTo n before → PairJoined cut read before after
-      → NearTo (n + 1) after
-  near-next n read before after is so-far more h k l =
-      subst (λ p. PairJoined cut p before after) is more h k l ∙ rw (so-far h k l, add-one n) (moved (ltb h (tableIn file .size) && eqb k h) (some n (brings h k)) (brings h k n))
+  pub near-next : (n lower higher degree : ℕ) (before after : List ℕ) → pair lower higher degree ≡ pairAt file (pairStart file n) → degreeAt file n ≤ 1000
+      → NearTo n before → PairJoined cut lower higher degree before after → NearTo (n + 1) after
+  near-next n lower higher degree before after is top so-far joins =
+      let more = subst Joins is joins in
+      record {
+        has = λ h k l.
+            more .has h k l
+            ∙ rw (so-far .has h k l, add-one n) (moved (ltb h (tableIn file .size) && eqb k h) (some n (brings h k)) (brings h k n));
+        within = λ h. grown h (touches h n) (more .far h) .0;
+        low = λ h. rw (add-one n) (grown h (touches h n) (more .far h) .1);
+      }
     where
+      Joins : Pair → Type 0
+      Joins (pair l u d) = PairJoined cut l u d before after
+
       moved : (a b c : Bool) → ((a || b) || c) ≡ (a || (c || b))
       moved true b c = refl
       moved false true true = refl
@@ -134,13 +78,18 @@ module _ (file : List ℕ) (cut : ℕ) where
       moved false false true = refl
       moved false false false = refl
 
+      grown : (h : ℕ) (b : Bool) → farthest after h ≡ cond b (max (farthest before h) (1000 - degreeAt file n)) (farthest before h)
+          → (farthest after h ≤ 1000) × (1000 - farthest after h ≡ min (cond b (degreeAt file n) 1000) (lowest n (brought h)))
+      grown h true e = (omega (arith, so-far .within h), omega (arith, so-far .within h, so-far .low h))
+      grown h false e = (omega (arith, so-far .within h), omega (arith, so-far .low h, lowest-top n (brought h)))
+
   module _ (ok : SoundFile file) where
-    -- LAW: a pair is of two symbols
-    pub pair-symbols : (i : ℕ) → i < pairCount file → (lowerAt file i < tableIn file .size) × (higherAt file i < tableIn file .size)
+    -- LAW: a pair is of two symbols, and has a degree
+    pub pair-symbols : (i : ℕ) → i < pairCount file → (lowerAt file i < tableIn file .size) × (higherAt file i < tableIn file .size) × (degreeAt file i ≤ 1000)
     unfolding tableIn
     pair-symbols i l =
         let s = subst (SoundPair (aritiesIn file)) (pair-in file i l) (sound-at file ok i l) in
-        (omega (arith, s .0, s .1), s .1)
+        (omega (arith, s .0, s .1), s .1, s .4)
 
   module _ (ok : SoundFile file) (positive : 0 < cut) where
     abbrev T : Table
@@ -187,9 +136,9 @@ module _ (file : List ℕ) (cut : ℕ) where
         other : (i l u d : ℕ) → i < pairCount file → getD (pairsIn file) i (pair 0 0 0) ≡ pair l u d → isPair l u h k ≡ false
         other i l u d m e = ap of-pair (inv e ∙ pair-in file i m) ∙ no-pair i m _ refl
 
-    -- LAW: all pairs
-    pub near-all : cut ≤ 1000 → (sets : List ℕ) → NearTo (pairCount file) sets → NearSets T cut sets
-    near-all top sets near h k l = near h k l ∙ go (some (pairCount file) (brings h k)) refl (ℕ-discrete h k) (decLt k (T .size))
+    -- all pairs bring the symbols that are near
+    all-near : cut ≤ 1000 → (h k : ℕ) → ((ltb h (T .size) && eqb k h) || some (pairCount file) (brings h k)) ≡ isNear T cut h k
+    all-near top h k = go (some (pairCount file) (brings h k)) refl (ℕ-discrete h k) (decLt k (T .size))
       where
         Told : Bool → Type 0
         Told brought = ((ltb h (T .size) && eqb k h) || brought) ≡ (ltb k (T .size) && leb cut (T .deg k h))
@@ -216,3 +165,77 @@ module _ (file : List ℕ) (cut : ℕ) where
             rw (lt-ltb h (T .size) (omega arith), eq-eqb k h (inv d), lt-ltb k (T .size) u, le-leb cut (T .deg k h) (omega arith))
         go false e (yes d) (no u) = rw (le-ltb h (T .size) (omega arith), le-ltb k (T .size) (omega arith))
         go false e (no d) u = rw (ne-eqb k h (λ q. d (inv q)), and-false (ltb h (T .size))) (inv (by-none e d _ refl))
+
+    -- a pair of h brings the degree of a symbol near to h
+    low-pair : (h i : ℕ) → i < pairCount file → lowest (T .size) (λ k. cond (isNear T cut h k) (T .deg k h) 1000) ≤ brought h i
+    low-pair h i l = go (touches h i) refl (eqb h (lowerAt file i)) refl
+      where
+        g : ℕ → ℕ
+        g k = cond (isNear T cut h k) (T .deg k h) 1000
+
+        with-other : (k : ℕ) → k < T .size → isPair (lowerAt file i) (higherAt file i) h k ≡ true → leb cut (degreeAt file i) ≡ true → lowest (T .size) g ≤ degreeAt file i
+        with-other k m e r =
+            let is = pair-degree i h k l e in
+            let near : isNear T cut h k ≡ true = and-true (ltb k (T .size)) (leb cut (T .deg k h)) (lt-ltb k (T .size) m) (ap (leb cut) is ∙ r) in
+            let here : g k ≡ degreeAt file i = rw near is in
+            omega (arith, lowest-le (T .size) g k m)
+
+        first-way : eqb h (lowerAt file i) ≡ true → isPair (lowerAt file i) (higherAt file i) h (higherAt file i) ≡ true
+        first-way f = rw (f, eq-eqb (higherAt file i) (higherAt file i) refl)
+
+        second-way : eqb h (higherAt file i) ≡ true → isPair (lowerAt file i) (higherAt file i) h (lowerAt file i) ≡ true
+        second-way f = rw (f, eq-eqb (lowerAt file i) (lowerAt file i) refl) (or-right (eqb h (lowerAt file i) && eqb (lowerAt file i) (higherAt file i)) true refl)
+
+        go : (b : Bool) → touches h i ≡ b → (c : Bool) → eqb h (lowerAt file i) ≡ c → lowest (T .size) g ≤ cond b (degreeAt file i) 1000
+        go false e c f = lowest-top (T .size) g
+        go true e true f =
+            with-other (higherAt file i) (pair-symbols ok i l .1) (first-way f) (and-left (leb cut (degreeAt file i)) (eqb h (lowerAt file i) || eqb h (higherAt file i)) e)
+        go true e false f =
+            let last = rw f at (and-right (leb cut (degreeAt file i)) (eqb h (lowerAt file i) || eqb h (higherAt file i)) e) in
+            with-other (lowerAt file i) (pair-symbols ok i l .0) (second-way last) (and-left (leb cut (degreeAt file i)) (eqb h (lowerAt file i) || eqb h (higherAt file i)) e)
+
+    -- a symbol near to h has degree 1000 with it, or that of a pair of h
+    low-symbol : (h k : ℕ) → lowest (pairCount file) (brought h) ≤ cond (isNear T cut h k) (T .deg k h) 1000
+    low-symbol h k = go (isNear T cut h k) refl (ℕ-discrete h k)
+      where
+        by-pair : (i : ℕ) → i < pairCount file → brings h k i ≡ true → lowest (pairCount file) (brought h) ≤ T .deg k h
+        by-pair i m e =
+            let of-both = and-right (leb cut (degreeAt file i)) (isPair (lowerAt file i) (higherAt file i) h k) e in
+            let is = pair-degree i h k m of-both in
+            let reaches = and-left (leb cut (degreeAt file i)) (isPair (lowerAt file i) (higherAt file i) h k) e in
+            let touched : touches h i ≡ true = and-true (leb cut (degreeAt file i)) (eqb h (lowerAt file i) || eqb h (higherAt file i)) reaches (one-of (eqb h (lowerAt file i)) (eqb k (higherAt file i)) (eqb h (higherAt file i)) (eqb k (lowerAt file i)) of-both) in
+            let here : brought h i ≡ degreeAt file i = rw touched in
+            omega (arith, lowest-le (pairCount file) (brought h) i m)
+          where
+            one-of : (a b c d : Bool) → ((a && b) || (c && d)) ≡ true → (a || c) ≡ true
+            one-of true b c d e = refl
+            one-of false b true d e = refl
+            one-of false b false d e = e
+
+        different : (h ≡ k → ⊥) → leb cut (T .deg k h) ≡ true → (b : Bool) → some (pairCount file) (brings h k) ≡ b → lowest (pairCount file) (brought h) ≤ T .deg k h
+        different n r false e = absurd (apart h k n e r)
+        different n r true e =
+            elim (the-most (brings h k) (λ i. 0) (pairCount file)) [
+              | inl none ↦ absurd (false≢true (inv (none .0) ∙ e))
+              | inr one ↦ by-pair (one .pick) (one .below) (one .passes)
+            ]
+
+        go : (b : Bool) → isNear T cut h k ≡ b → Dec (h ≡ k) → lowest (pairCount file) (brought h) ≤ cond b (T .deg k h) 1000
+        go false e d = lowest-top (pairCount file) (brought h)
+        go true e (yes d) =
+            let inside = ltb-true k (T .size) (and-left (ltb k (T .size)) (leb cut (T .deg k h)) e) in
+            omega (arith, lowest-top (pairCount file) (brought h), ap (T .deg k) d, sound file ok .lawful .itself k inside)
+        go true e (no d) = different d (and-right (ltb k (T .size)) (leb cut (T .deg k h)) e) _ refl
+
+    -- LAW: all pairs
+    pub near-all : cut ≤ 1000 → (near : List ℕ) → NearTo (pairCount file) near → NearSets T cut near
+    near-all top near all =
+        record {
+          has = λ h k l. all .has h k l ∙ all-near top h k;
+          within = all .within;
+          low = λ h.
+              let g : ℕ → ℕ = λ k. cond (isNear T cut h k) (T .deg k h) 1000 in
+              let least = le-lowest (T .size) g (lowest (pairCount file) (brought h)) (lowest-top (pairCount file) (brought h)) (λ k l. low-symbol h k) in
+              let most = le-lowest (pairCount file) (brought h) (lowest (T .size) g) (lowest-top (T .size) g) (low-pair h) in
+              all .low h ∙ omega arith;
+        }

@@ -1,34 +1,60 @@
--- Sets that stand one after the other, the set of symbol h at place h.
+-- What a match gathers of the symbols near each symbol: for one symbol after the other the words of a set, and how far the lowest degree in
+-- the set is below 1000.
 use mathlib.Core.Path.{_≡_}
 use mathlib.Core.List.{List}
-use mathlib.Core.Bool.{_&&_, _||_}
-use Prim.Native.Nat.{ℕ, _*_, _≤_, _<_}
+use mathlib.Core.Bool.{Bool, _&&_, _||_, cond}
+use Prim.Native.Nat.{ℕ, _+_, _-_, _*_, _/_, _%_, _≤_, _<_, max}
 use lib.Dec.{ltb, leb, eqb}
-use lib.ListN.{length}
+use lib.ListN.{length, getD}
 use Rattle.theory.specs.Table.{Table}
+use Rattle.theory.specs.Least.{lowest}
 use Rattle.theory.specs.Pairs.{Pair, pair, isPair}
-use Rattle.meaning.specs.Limits.{setWords, setRoom}
+use Rattle.meaning.specs.Limits.{wordBits, setWords, setRoom}
 use Rattle.meaning.specs.Calls.{zeros}
-use Rattle.meaning.specs.Buffers.{holds}
+use Rattle.meaning.specs.Buffers.{bit}
 
--- The list is all zeros, and has room for a set of each symbol.
-pub record Fresh (T : Table) (sets : List ℕ) : Type 0 where
-  pub room : setWords * T .size ≤ length sets
-  pub zero : sets ≡ zeros (length sets)
+-- the words of a symbol
+abbrev pub nearWords : ℕ
+nearWords = 5
 
--- In the set of h are the symbols whose degree with h reaches the cut. (What is no symbol has an empty set, if the cut is above 0.)
-abbrev pub NearSets : Table → ℕ → List ℕ → Type 0
-NearSets T cut sets = (h k : ℕ) → k < setRoom → holds sets h k ≡ (ltb k (T .size) && leb cut (T .deg k h))
+-- symbol k is in the set of h
+unfoldable pub inNear : List ℕ → ℕ → ℕ → Bool
+inNear near h k = bit (k % wordBits) (getD near (nearWords * h + k / wordBits) 0)
+
+-- how far the lowest degree in that set is below 1000
+unfoldable pub farthest : List ℕ → ℕ → ℕ
+farthest near h = getD near (nearWords * h + setWords) 0
+
+-- The list is all zeros, and has room for the words of each symbol.
+pub record Fresh (T : Table) (near : List ℕ) : Type 0 where
+  pub room : nearWords * T .size ≤ length near
+  pub zero : near ≡ zeros (length near)
+
+-- The words of h are there, and a degree can be told from them.
+abbrev pub Kept : List ℕ → ℕ → Type 0
+Kept near h = (nearWords * (h + 1) ≤ length near) × (farthest near h ≤ 1000)
+
+-- k is a symbol whose degree with h reaches the cut
+abbrev pub isNear : Table → ℕ → ℕ → ℕ → Bool
+isNear T cut h k = ltb k (T .size) && leb cut (T .deg k h)
+
+-- In the set of h are the symbols near to h, and the lowest of their degrees is kept with it.
+pub record NearSets (T : Table) (cut : ℕ) (near : List ℕ) : Type 0 where
+  pub has : (h k : ℕ) → k < setRoom → inNear near h k ≡ isNear T cut h k
+  pub within : (h : ℕ) → farthest near h ≤ 1000
+  pub low : (h : ℕ) → 1000 - farthest near h ≡ lowest (T .size) (λ k. cond (isNear T cut h k) (T .deg k h) 1000)
 
 -- In the set of each symbol is that symbol alone, for so many symbols.
-abbrev pub OwnSets : ℕ → List ℕ → Type 0
-OwnSets symbols sets = (h k : ℕ) → k < setRoom → holds sets h k ≡ (ltb h symbols && eqb k h)
+pub record OwnSets (symbols : ℕ) (near : List ℕ) : Type 0 where
+  pub has : (h k : ℕ) → k < setRoom → inNear near h k ≡ (ltb h symbols && eqb k h)
+  pub far : (h : ℕ) → farthest near h ≡ 0
 
--- Symbol k has joined the set of symbol h, and all else is as before.
-abbrev pub Joined : ℕ → ℕ → List ℕ → List ℕ → Type 0
-Joined h k before after = (p j : ℕ) → j < setRoom → holds after p j ≡ (holds before p j || (eqb p h && eqb j k))
+-- Symbol k has joined the set of symbol h at this degree, and all else is as before.
+pub record Joined (h k degree : ℕ) (before after : List ℕ) : Type 0 where
+  pub has : (p j : ℕ) → j < setRoom → inNear after p j ≡ (inNear before p j || (eqb p h && eqb j k))
+  pub far : (p : ℕ) → farthest after p ≡ cond (eqb p h) (max (farthest before p) (1000 - degree)) (farthest before p)
 
 -- The symbols of a pair have joined each other's sets if its degree reaches the cut, and all else is as before.
-abbrev pub PairJoined : ℕ → Pair → List ℕ → List ℕ → Type 0
-PairJoined cut (pair lower higher degree) before after =
-    (p j : ℕ) → j < setRoom → holds after p j ≡ (holds before p j || (leb cut degree && isPair lower higher p j))
+pub record PairJoined (cut lower higher degree : ℕ) (before after : List ℕ) : Type 0 where
+  pub has : (p j : ℕ) → j < setRoom → inNear after p j ≡ (inNear before p j || (leb cut degree && isPair lower higher p j))
+  pub far : (p : ℕ) → farthest after p ≡ cond (leb cut degree && (eqb p lower || eqb p higher)) (max (farthest before p) (1000 - degree)) (farthest before p)

@@ -1,73 +1,92 @@
 // The symbols near each symbol.
 ghost use mathlib.Core.Path.{_≡_};
-ghost use Prim.Native.Nat.{ℕ, _+_, _*_, _<_, _≤_};
+ghost use Prim.Native.Nat.{ℕ, _+_, _-_, _*_, _<_, _≤_, max};
 ghost use lib.ListN.{length};
-ghost use Rattle.meaning.specs.Limits.{setWords, setRoom};
+ghost use Rattle.meaning.specs.Limits.{setRoom};
 ghost use Rattle.meaning.specs.File.{tableIn};
 ghost use Rattle.meaning.specs.Refusals.{SoundFile};
 ghost use Rattle.meaning.specs.Calls.{zeros};
-ghost use Rattle.meaning.specs.Buffers.{member, holds};
-ghost use Rattle.table.specs.Read.{pairIn};
-ghost use Rattle.table.specs.Near.{Fresh, NearSets, OwnSets, Joined, PairJoined};
+ghost use Rattle.meaning.specs.Buffers.{member};
+ghost use Rattle.table.specs.Near.{nearWords, inNear, farthest, Fresh, Kept, NearSets, OwnSets, Joined, PairJoined};
 use crate::read::Pair;
 use crate::read::pair_count;
 use crate::read::pair_from;
 use crate::read::symbol_count;
 use sets::SymbolSet;
 
-// Puts symbol k into the set of symbol h.
-fn join(sets: &mut [u64], h: u16, k: u16)
-    requires { ⌜ (setWords * (h + 1) ≤ length (now sets)) × (k < setRoom) ⌝ }
-    ensures { λ _. ⌜ Joined h k (now (sets .entry)) (now (sets .exit)) ⌝ }
+// How many words a symbol has: its set, and how far the lowest degree in the set is below 1000.
+const WORDS: usize = 5;
+
+fn greater(a: u64, b: u64) -> u64
+    ensures { λ r. ⌜ r ≡ max a b ⌝ }
 {
-    let at = SymbolSet::WORDS * h as usize + (k / SymbolSet::BITS) as usize;
-    sets[at] = sets[at] | 1u64 << (k % SymbolSet::BITS);
+    if a < b { b } else { a }
+}
+
+// Puts symbol k, which has this degree with symbol h, into the set of h.
+fn join(near: &mut [u64], h: u16, k: u16, degree: u16)
+    requires { ⌜ (nearWords * (h + 1) ≤ length (now near)) × (k < setRoom) × (degree ≤ 1000) ⌝ }
+    ensures { λ _. ⌜ Joined h k degree (now (near .entry)) (now (near .exit)) ⌝ }
+{
+    let at = WORDS * h as usize;
+    let word = at + (k / SymbolSet::BITS) as usize;
+    near[word] = near[word] | 1u64 << (k % SymbolSet::BITS);
+    let far = at + SymbolSet::WORDS;
+    near[far] = greater(near[far], (1000 - degree) as u64);
 }
 
 // Puts each symbol into its own set.
-fn own_sets(sets: &mut [u64], symbols: u16)
-    requires { ⌜ (symbols ≤ setRoom) × (setWords * symbols ≤ length (now sets)) × (now sets ≡ zeros (length (now sets))) ⌝ }
-    ensures { λ _. ⌜ OwnSets symbols (now (sets .exit)) ⌝ }
+fn own_sets(near: &mut [u64], symbols: u16)
+    requires { ⌜ (symbols ≤ setRoom) × (nearWords * symbols ≤ length (now near)) × (now near ≡ zeros (length (now near))) ⌝ }
+    ensures { λ _. ⌜ OwnSets symbols (now (near .exit)) ⌝ }
 {
     for h in 0..symbols {
-        join(sets, h, h);
+        join(near, h, h, 1000);
     }
 }
 
 // Puts the symbols of a pair into each other's sets, if its degree reaches the cut.
-fn join_pair(sets: &mut [u64], pair: Pair, cut: u16)
-    requires { ⌜ (pair .lower < setRoom) × (pair .higher < setRoom) ⌝ }
-    requires { ⌜ (setWords * (pair .lower + 1) ≤ length (now sets)) × (setWords * (pair .higher + 1) ≤ length (now sets)) ⌝ }
-    ensures { λ _. ⌜ PairJoined cut (pairIn pair) (now (sets .entry)) (now (sets .exit)) ⌝ }
+fn join_pair(near: &mut [u64], pair: Pair, cut: u16)
+    requires { ⌜ (pair .lower < setRoom) × (pair .higher < setRoom) × (pair .degree ≤ 1000) ⌝ }
+    requires { ⌜ (nearWords * (pair .lower + 1) ≤ length (now near)) × (nearWords * (pair .higher + 1) ≤ length (now near)) ⌝ }
+    ensures { λ _. ⌜ PairJoined cut (pair .lower) (pair .higher) (pair .degree) (now (near .entry)) (now (near .exit)) ⌝ }
 {
     if cut <= pair.degree {
-        join(sets, pair.lower, pair.higher);
-        join(sets, pair.higher, pair.lower);
+        join(near, pair.lower, pair.higher, pair.degree);
+        join(near, pair.higher, pair.lower, pair.degree);
     }
 }
 
 // Gathers the sets of the symbols near each symbol, in a list that is all zeros. One look at each pair serves both its symbols.
-pub fn near_sets(file: &[u8], cut: u16, sets: &mut [u64])
+pub fn near_sets(file: &[u8], cut: u16, near: &mut [u64])
     requires { ⌜ SoundFile (now file) × (0 < cut) × (cut ≤ 1000) ⌝ }
-    requires { ⌜ Fresh (tableIn (now file)) (now sets) ⌝ }
-    ensures { λ _. ⌜ NearSets (tableIn (now (file .entry))) cut (now (sets .exit)) ⌝ }
+    requires { ⌜ Fresh (tableIn (now file)) (now near) ⌝ }
+    ensures { λ _. ⌜ NearSets (tableIn (now (file .entry))) cut (now (near .exit)) ⌝ }
 {
     let symbols = symbol_count(file);
-    own_sets(sets, symbols);
+    own_sets(near, symbols);
     let mut at = 10 + symbols as usize;
     for k in 0..pair_count(file) {
-        join_pair(sets, pair_from(file, at), cut);
+        join_pair(near, pair_from(file, at), cut);
         at += 6;
     }
 }
 
 // The set of symbol h.
-pub fn set_of(sets: &[u64], h: u16) -> SymbolSet
-    requires { ⌜ setWords * (h + 1) ≤ length (now sets) ⌝ }
-    ensures { λ r. ⌜ ((k : ℕ) → k < setRoom → member (r .words) k ≡ holds (now (sets .entry)) h k) ⌝ }
+pub fn set_of(near: &[u64], h: u16) -> SymbolSet
+    requires { ⌜ Kept (now near) h ⌝ }
+    ensures { λ r. ⌜ ((k : ℕ) → k < setRoom → member (r .words) k ≡ inNear (now (near .entry)) h k) ⌝ }
 {
-    let at = SymbolSet::WORDS * h as usize;
+    let at = WORDS * h as usize;
     SymbolSet {
-        words: [sets[at], sets[at + 1], sets[at + 2], sets[at + 3]],
+        words: [near[at], near[at + 1], near[at + 2], near[at + 3]],
     }
+}
+
+// The lowest degree in that set.
+pub fn lowest_of(near: &[u64], h: u16) -> u16
+    requires { ⌜ Kept (now near) h ⌝ }
+    ensures { λ r. ⌜ r ≡ 1000 - farthest (now (near .entry)) h ⌝ }
+{
+    1000 - near[WORDS * h as usize + SymbolSet::WORDS] as u16
 }

@@ -119,7 +119,7 @@ pack-next-requires c κs =
     let p = entry turn .pre in
     let kept = turn .before .loop .inv in
     let gathered = turn .before .before .before .before .before .near-sets in
-    let room = covers (p .0) (gathered .last .1 .1 .0) (omega (arith, p .1 .1 .0 .room, gathered .kept .1 .1 .0)) in
+    let room = covers (p .0) (gathered .last .1 .1 .0) (gathered .ensures) (omega (arith, p .1 .1 .0 .room, gathered .kept .1 .1 .0)) in
     (record { cut = entry turn .args .cut; packable = p .0; covers = room }, (room-kept (p .1 .0) (kept .1) (kept .2) (kept .3) (kept .4), ((new .below, new .some), new .fits)))
 
 add-i : tie.Need-add-i Inv-loop μ-loop

@@ -1,79 +1,58 @@
--- The loop keeps the least and the most that the symbols passed share, of those that are in the set; and all that are in it are below
--- the number of symbols.
+-- One subterm alone has its degrees kept with the near set of what stands there; more than one share theirs.
 use borrow.Author.Needs.{needs}
-use mathlib.Core.Path.{_≡_, refl, sym as inv, _∙_}
-use mathlib.Core.Logic.{inl, inr}
-use Prim.Native.Nat.{_≤_, _-_}
+use mathlib.Core.Path.{_≡_}
+use Prim.Native.Nat.{_+_, _<_}
 use native.Mathlib.Omega.{arith}
-use Rattle.meaning.specs.File.{tableIn}
-use Rattle.positions.proofs.Standing.{RatedBelow, rated-in, rated-out, rated-all}
+use lib.ListN.{length, getD}
+use Rattle.positions.proofs.Alone.{alone}
 use Rattle.positions.proofs.position.degrees_at.Statement.{statement}
 use Rattle.positions.proofs.position.degrees_at.Tie as tie
 
-abbrev Inv-loop : tie.InvT-loop
-Inv-loop table heading starts sizes count k set symbols lowest₀ highest₀ s₀ lowest highest s =
-    (s ≤ symbols) × RatedBelow (tableIn table) heading starts sizes k count (set .words) s lowest highest
+-- the position's node is in the heading
+inside : (s : tie.Start) → getD (s .args .starts .now) 0 0 + s .args .k < length (s .args .heading .now)
+inside s = omega (arith, s .pre .2 .ends 0 (s .pre .3), s .pre .4)
 
-abbrev μ-loop : tie.MeasureT-loop
-μ-loop table heading starts sizes count k set symbols lowest₀ highest₀ s₀ lowest highest s = symbols - s
+shared-slice-read-symbol : tie.Need-shared-slice-read-symbol
+shared-slice-read-symbol c = search needs
 
-symbol-count-requires : tie.Need-symbol-count-requires Inv-loop μ-loop
-symbol-count-requires c κs = search needs
+cast-symbol : tie.Need-cast-symbol
+cast-symbol c = omega (arith, inside (c .before .before .before .before .before .before .before))
 
-loop-holds : tie.Need-loop-holds Inv-loop μ-loop
-loop-holds c = (omega arith, λ ts g. (refl, refl))
+add-symbol : tie.Need-add-symbol
+add-symbol c = omega (arith, inside (c .before .before .before .before .before .before .before))
 
-has-requires : tie.Need-has-requires Inv-loop μ-loop
-has-requires c κs = search needs
+mul-symbol : tie.Need-mul-symbol
+mul-symbol c = omega (arith, inside (c .before .before .before .before .before .before .before))
 
-shared-at-requires : tie.Need-shared-at-requires Inv-loop μ-loop
-shared-at-requires c κs = search needs
+shared-slice-read-symbol-2 : tie.Need-shared-slice-read-symbol-2
+shared-slice-read-symbol-2 c = inside (c .before .before .before .before .before .before .before .before)
 
-lesser-requires : tie.Need-lesser-requires Inv-loop μ-loop
-lesser-requires c κs = search needs
+lowest-of-requires : tie.Need-lowest-of-requires
+lowest-of-requires c κs = let s = c .before .before .before .before .before .before .before .before in s .pre .1 _ (inside s)
 
-greater-requires : tie.Need-greater-requires Inv-loop μ-loop
-greater-requires c κs = search needs
+returns : tie.Need-returns
+returns c cut known =
+    let s = c .before .before .before .before .before .before .before .before .before in
+    let a = s .args in
+    let one : a .count ≡ 1 = omega arith in
+    rw one (alone known (a .starts .now) (a .sizes .now) (a .k) (c .lowest-of .result) (a .set .words) (s .pre .4) (c .lowest-of .ensures))
 
-add-s : tie.Need-add-s Inv-loop μ-loop
-add-s c = search needs
+shared-degrees-requires : tie.Need-shared-degrees-requires
+shared-degrees-requires c κs = search needs
 
-loop-less : tie.Need-loop-less Inv-loop μ-loop
-loop-less c = search needs
-
-loop-again : tie.Need-loop-again Inv-loop μ-loop
-loop-again c =
-    let a = c .before .before .before .before .before .before .before .before .before .args in
-    let T = tableIn (a .table .now) in
-    let asked = inv (c .before .has .ensures) in
-    let before = c .before .before .before .loop .inv .1 in (
-      omega arith,
-      elim (c .if1 .came) [
-        | inl w ↦ rated-in T _ _ _ (a .k) _ _ _ _ _ _ _ _ (asked ∙ w .0 .taken) (w .1 .ensures) (w .4 ∙ w .2 .ensures) (w .5 ∙ w .3 .ensures) before
-        | inr w ↦ rated-out T _ _ _ (a .k) _ _ _ _ _ _ _ (asked ∙ w .0 .left) (w .1) (w .2) before
-      ],
-    )
-
-returns : tie.Need-returns Inv-loop μ-loop
-returns c =
-    let a = c .before .before .before .before .before .before .before .args in
-    let T = tableIn (a .table .now) in
-    let e : c .before .loop .s ≡ T .size = omega (arith, c .before .before .symbol-count .ensures) in
-    rated-all T _ _ _ (a .k) _ _ _ _ (rw e at (c .before .loop .inv .1))
+returns-2 : tie.Need-returns-2
+returns-2 c cut known = c .shared-degrees .ensures cut
 
 pub degrees-at-spec : {M : Type 1} → statement M
 degrees-at-spec =
     tie.close
     (tie.spec
-    Inv-loop
-    μ-loop
-    symbol-count-requires
-    loop-holds
-    has-requires
-    shared-at-requires
-    lesser-requires
-    greater-requires
-    add-s
-    loop-less
-    loop-again
-    returns)
+    shared-slice-read-symbol
+    cast-symbol
+    add-symbol
+    mul-symbol
+    shared-slice-read-symbol-2
+    lowest-of-requires
+    returns
+    shared-degrees-requires
+    returns-2)

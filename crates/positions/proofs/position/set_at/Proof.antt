@@ -12,7 +12,7 @@ use Rattle.positions.proofs.position.set_at.Tie as tie
 
 abbrev Inv-loop : tie.InvT-loop
 Inv-loop near heading starts sizes count k set₀ o₀ set o =
-    (o ≤ count) × ((T : Table) (cut : ℕ) → NearOf T cut near → SetAt T heading starts sizes k cut o (set .words))
+    (o ≤ count) × ((T : Table) (cut : ℕ) → NearOf T cut near heading → SetAt T heading starts sizes k cut o (set .words))
 
 abbrev μ-loop : tie.MeasureT-loop
 μ-loop near heading starts sizes count k set₀ o₀ set o = count - o

@@ -24,7 +24,7 @@ abbrev Inv-loop : tie.InvT-loop
 Inv-loop table near heading starts sizes count at sets₀ formed₀ lowest₀ highest₀ k₀ k-end sets formed lowest highest k =
     (k ≤ k-end)
     × (length sets ≡ length sets₀)
-    × ((ts : List Term) (cut : ℕ) → Gathered heading starts sizes count ts → NearOf (tableIn table) cut near → PackedTo (tableIn table) cut ts at k sets₀ sets formed lowest highest)
+    × ((ts : List Term) (cut : ℕ) → Gathered heading starts sizes count ts → NearOf (tableIn table) cut near heading → PackedTo (tableIn table) cut ts at k sets₀ sets formed lowest highest)
 
 abbrev μ-loop : tie.MeasureT-loop
 μ-loop table near heading starts sizes count at sets₀ formed₀ lowest₀ highest₀ k₀ k-end sets formed lowest highest k =
@@ -91,7 +91,7 @@ loop-again c =
       put .put-set .kept .0 ∙ loop .inv .1,
       λ ts cut g known.
           let is = set .ensures (tableIn (a .table .now)) cut known ts g in
-          let degrees = c .before .before .degrees-at .ensures ts cut g is in
+          let degrees = c .before .before .degrees-at .ensures cut known ts g is in
           packed-next (tableIn (a .table .now)) cut ts (a .at) (a .sets .now) (loop .k) (set .result .words) (empty .result)
           (loop .inv .2 ts cut g known) (omega (arith, start .pre .1)) (set-words chosen) is (put .put-set .ensures) (empty .ensures) (form-is met)
           (c .before .lesser .ensures ∙ ap (min (loop .lowest)) (degrees .0))

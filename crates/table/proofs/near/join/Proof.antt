@@ -1,69 +1,98 @@
--- One bit is set, in the word of k among those of h.
+-- One bit is set, in the word of k among those of h, and the last word of h grows if the degree is lower than all before.
 use borrow.Author.Needs.{needs}
-use mathlib.Core.Path.{ap, _∙_}
-use Prim.Native.Nat.{ℕ, _+_, _*_, _/_, _%_, _^_}
+use mathlib.Core.Path.{_∙_}
+use Prim.Native.Nat.{_%_, _^_}
 use native.Mathlib.Nat.{one-mul}
 use native.Mathlib.Omega.{arith}
-use lib.Bits.{bitOr}
 use lib.Dec.{lit<}
 use lib.Pow.{shl-exact}
-use lib.ListN.{getD, set}
-use Rattle.meaning.specs.Limits.{wordBits, setWords}
-use Rattle.meaning.specs.Buffers.{holds}
-use Rattle.table.proofs.Nearness.{joined}
+use lib.ListN.{length-set}
+use Rattle.meaning.specs.Limits.{wordBits}
+use Rattle.table.proofs.Joining.{joined}
 use Rattle.table.proofs.near.join.Statement.{statement}
 use Rattle.table.proofs.near.join.Tie as tie
 
 mul-at : tie.Need-mul-at
 mul-at c = search needs
 
-cast-at : tie.Need-cast-at
-cast-at c = search needs
+cast-word : tie.Need-cast-word
+cast-word c = search needs
 
-add-at : tie.Need-add-at
-add-at c = search needs
+add-word : tie.Need-add-word
+add-word c = search needs
 
-mul-sets : tie.Need-mul-sets
-mul-sets c = search needs
+mul-near : tie.Need-mul-near
+mul-near c = search needs
 
-slice-read-sets : tie.Need-slice-read-sets
-slice-read-sets c = search needs
+slice-read-near : tie.Need-slice-read-near
+slice-read-near c = search needs
 
-cast-sets : tie.Need-cast-sets
-cast-sets c = search needs
+cast-near : tie.Need-cast-near
+cast-near c = search needs
 
-shl-sets : tie.Need-shl-sets
-shl-sets c = search needs
+shl-near : tie.Need-shl-near
+shl-near c = search needs
 
-mul-sets-2 : tie.Need-mul-sets-2
-mul-sets-2 c = search needs
+mul-near-2 : tie.Need-mul-near-2
+mul-near-2 c = search needs
 
-slice-write-sets : tie.Need-slice-write-sets
-slice-write-sets c = search needs
+slice-write-near : tie.Need-slice-write-near
+slice-write-near c = search needs
+
+add-far : tie.Need-add-far
+add-far c = search needs
+
+mul-greater : tie.Need-mul-greater
+mul-greater c = search needs
+
+slice-read-greater : tie.Need-slice-read-greater
+slice-read-greater c = let s = c .before .before .before in simp length-set (omega (arith, s .pre .0))
+
+sub-greater : tie.Need-sub-greater
+sub-greater c = search needs
+
+cast-greater : tie.Need-cast-greater
+cast-greater c = search needs
+
+greater-requires : tie.Need-greater-requires
+greater-requires c κs = search needs
+
+mul-near-3 : tie.Need-mul-near-3
+mul-near-3 c = search needs
+
+slice-write-near-2 : tie.Need-slice-write-near-2
+slice-write-near-2 c = let s = c .before .before .before .before in simp length-set (omega (arith, s .pre .0))
 
 same-length : tie.Need-same-length
 same-length c = search needs
 
 returns : tie.Need-returns
-returns c p j l =
-    let a = c .before .args in
-    let k = a .k in
-    let one = shl-exact 1 (k % wordBits) wordBits (lit< tt) (omega arith) ∙ one-mul (2 ^ (k % wordBits)) in
-    let at = setWords * a .h + k / wordBits in
-    ap (λ (w : ℕ). holds (set (a .sets .now) at (bitOr (getD (a .sets .now) at 0) w)) p j) one ∙ joined (a .sets .now) (a .h) k (c .before .pre .1) (c .before .pre .0) p j l
+returns c =
+    let a = c .before .before .before .before .args in
+    let p = c .before .before .before .before .pre in
+    let one = shl-exact 1 (a .k % wordBits) wordBits (lit< tt) (omega arith) ∙ one-mul (2 ^ (a .k % wordBits)) in
+    joined (a .near .now) (a .h) (a .k) (a .degree) (p .1) (p .0) _ _ one (c .greater .ensures)
 
 pub join-spec : {M : Type 1} → statement M
 join-spec =
     tie.close
     (tie.spec
     mul-at
-    cast-at
-    add-at
-    mul-sets
-    slice-read-sets
-    cast-sets
-    shl-sets
-    mul-sets-2
-    slice-write-sets
+    cast-word
+    add-word
+    mul-near
+    slice-read-near
+    cast-near
+    shl-near
+    mul-near-2
+    slice-write-near
+    add-far
+    mul-greater
+    slice-read-greater
+    sub-greater
+    cast-greater
+    greater-requires
+    mul-near-3
+    slice-write-near-2
     same-length
     returns)

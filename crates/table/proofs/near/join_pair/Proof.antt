@@ -1,7 +1,7 @@
 -- A pair that reaches the cut brings two bits, one in each symbol's set; another brings none.
 use borrow.Author.Needs.{needs}
 use native.Mathlib.Omega.{arith}
-use Rattle.table.proofs.Nearness.{pair-joined, pair-passed}
+use Rattle.table.proofs.Joining.{pair-joined, pair-passed}
 use Rattle.table.proofs.near.join_pair.Statement.{statement}
 use Rattle.table.proofs.near.join_pair.Tie as tie
 
@@ -22,7 +22,7 @@ returns c =
 returns-2 : tie.Need-returns-2
 returns-2 c =
     let a = c .before .before .before .args in
-    pair-passed (a .cut) (a .pair .lower) (a .pair .higher) (a .pair .degree) (a .sets .now) (omega arith)
+    pair-passed (a .cut) (a .pair .lower) (a .pair .higher) (a .pair .degree) (a .near .now) (omega arith)
 
 pub join-pair-spec : {M : Type 1} → statement M
 join-pair-spec = tie.close (tie.spec join-requires join-requires-2 same-length returns returns-2)

@@ -7,7 +7,7 @@ use native.Mathlib.Omega.{arith}
 use denote.Ref.{now}
 use lib.ListN.{length}
 use Rattle.meaning.specs.File.{pairCount, pairAt, tableIn}
-use Rattle.meaning.specs.Tables.{pairStart, lowerAt, higherAt}
+use Rattle.meaning.specs.Tables.{pairStart, lowerAt, higherAt, degreeAt}
 use Rattle.meaning.proofs.Sound.{sound}
 use Rattle.table.specs.Read.{pairIn}
 use Rattle.table.proofs.Reading.{size-is, pair-inside}
@@ -16,11 +16,11 @@ use Rattle.table.proofs.near.near_sets.Statement.{statement}
 use Rattle.table.proofs.near.near_sets.Tie as tie
 
 abbrev Inv-loop : tie.InvT-loop
-Inv-loop file cut sets₀ symbols at₀ k₀ k-end sets at k =
-    (k ≤ pairCount file) × (at ≡ pairStart file k) × (length sets ≡ length sets₀) × NearTo file cut k sets
+Inv-loop file cut near₀ symbols at₀ k₀ k-end near at k =
+    (k ≤ pairCount file) × (at ≡ pairStart file k) × (length near ≡ length near₀) × NearTo file cut k near
 
 abbrev μ-loop : tie.MeasureT-loop
-μ-loop file cut sets₀ symbols at₀ k₀ k-end sets at k = k-end - k
+μ-loop file cut near₀ symbols at₀ k₀ k-end near at k = k-end - k
 
 -- ---- the pair of a turn
 
@@ -79,7 +79,8 @@ join-pair-requires c κs =
     let room = start .pre .1 .room in
     let kept = turn .before .loop .inv .2 in
     let same = turn .before .before .before .before .before .own-sets .kept .0 in
-    ((omega arith, omega arith), (omega arith, omega arith))
+    let d : c .pair-from .result .degree ≡ degreeAt file (turn .before .loop .k) = cc in
+    ((omega arith, omega arith, omega arith), (omega arith, omega arith))
 
 add-at-2 : tie.Need-add-at-2 Inv-loop μ-loop
 add-at-2 c = omega (arith, c .before .before .before .before .before .before .loop .inv .1, inside (c .before .before .before .before .before))
@@ -98,7 +99,8 @@ loop-again c =
       omega (arith, below turn),
       omega arith,
       met .kept .0 ∙ loop .inv .2,
-      near-next (fileAt turn) (entry turn .args .cut) (loop .k) _ (loop .sets) (met .last .0) (pair-is (c .before .before .before)) (loop .inv .3) (met .ensures),
+      near-next (fileAt turn) (entry turn .args .cut) (loop .k) _ _ _ (loop .near) (met .last .0) (pair-is (c .before .before .before))
+          (pair-symbols (fileAt turn) (entry turn .args .cut) (entry turn .pre .0 .0) (loop .k) (below turn) .2) (loop .inv .3) (met .ensures),
     )
 
 same-length : tie.Need-same-length Inv-loop μ-loop

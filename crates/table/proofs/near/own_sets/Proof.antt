@@ -5,15 +5,15 @@ use Prim.Native.Nat.{_≤_, _-_}
 use native.Mathlib.Omega.{arith}
 use lib.ListN.{length}
 use Rattle.table.specs.Near.{OwnSets}
-use Rattle.table.proofs.Nearness.{own-none, own-next}
+use Rattle.table.proofs.Joining.{own-none, own-next}
 use Rattle.table.proofs.near.own_sets.Statement.{statement}
 use Rattle.table.proofs.near.own_sets.Tie as tie
 
 abbrev Inv-loop : tie.InvT-loop
-Inv-loop sets₀ symbols h₀ sets h = (h ≤ symbols) × (length sets ≡ length sets₀) × OwnSets h sets
+Inv-loop near₀ symbols h₀ near h = (h ≤ symbols) × (length near ≡ length near₀) × OwnSets h near
 
 abbrev μ-loop : tie.MeasureT-loop
-μ-loop sets₀ symbols h₀ sets h = symbols - h
+μ-loop near₀ symbols h₀ near h = symbols - h
 
 loop-holds : tie.Need-loop-holds Inv-loop μ-loop
 loop-holds c = (omega arith, refl, own-none _ (c .before .pre .2))

@@ -6,7 +6,8 @@ use Prim.Native.Nat.{ℕ, zero, suc, _+_, _*_, _<_}
 use native.Mathlib.Omega.{arith}
 use lib.ListN.{getD}
 use Rattle.meaning.specs.Limits.{setWords}
-use Rattle.table.proofs.Nearness.{words-hold}
+use Rattle.table.specs.Near.{nearWords}
+use Rattle.table.proofs.Joining.{words-hold}
 use Rattle.table.proofs.near.set_of.Statement.{statement}
 use Rattle.table.proofs.near.set_of.Tie as tie
 
@@ -57,7 +58,7 @@ shared-slice-read-t18 c = search needs
 returns : tie.Need-returns
 returns c =
     let s = c .before .before .before .before in
-    words-hold (s .args .sets .now) (s .args .h) _ (four (s .args .sets .now) (setWords * s .args .h))
+    words-hold (s .args .near .now) (s .args .h) _ (four (s .args .near .now) (nearWords * s .args .h))
 
 pub set-of-spec : {M : Type 1} → statement M
 set-of-spec =
