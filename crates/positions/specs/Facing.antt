@@ -20,6 +20,10 @@ pub record Within (list starts sizes : List ℕ) (n : ℕ) : Type 0 where
   pub sized : n ≤ length sizes
   pub ends : (o : ℕ) → o < n → getD starts o 0 + getD sizes o 0 ≤ length list
 
+-- the first n have the same symbol at position k
+abbrev pub SameAt : List ℕ → List ℕ → List ℕ → ℕ → ℕ → Type 0
+SameAt list starts sizes k n = (o : ℕ) → o < n → (k < getD sizes o 0) × (getD list (getD starts o 0 + k) 0 ≡ getD list (getD starts 0 0 + k) 0)
+
 -- there is a near set for each number of the list
 abbrev pub Covers : List ℕ → List ℕ → Type 0
 Covers list near = (i : ℕ) → i < length list → Kept near (getD list i 0)

@@ -2,16 +2,20 @@
 //
 // The o-th of them begins at index `starts[o]` of the heading and has `sizes[o]` nodes.
 ghost use mathlib.Core.Path.{_≡_};
+ghost use mathlib.Core.Logic.{_↔_};
+ghost use mathlib.Core.Bool.{true};
 ghost use Prim.Native.Nat.{ℕ, _+_, _<_, _≤_, min, max};
 ghost use lib.ListN.{length, getD};
 ghost use Rattle.theory.specs.Table.{Table};
 ghost use Rattle.meaning.specs.File.{tableIn};
 ghost use Rattle.meaning.specs.Refusals.{SoundFile};
-ghost use Rattle.positions.specs.Facing.{Within, Covers, NearOf, DegreeAt, NearAt, SharedAt, SetAt, DegreesAt};
+ghost use Rattle.table.specs.Read.{Counted};
+ghost use Rattle.positions.specs.Facing.{Within, Covers, NearOf, SameAt, DegreeAt, NearAt, SharedAt, SetAt, DegreesAt};
 use sets::SymbolSet;
-use table::degree::degree;
+use table::degree::counted_degree;
 use table::near::lowest_of;
 use table::near::set_of;
+use table::read::pair_count;
 use table::read::symbol_count;
 
 pub fn lesser(a: u16, b: u16) -> u16
@@ -39,15 +43,24 @@ fn near_at(near: &[u64], heading: &[u16], start: u16, size: u16, k: usize) -> Sy
 }
 
 // The degree of a symbol with what stands at position k of one subterm.
-fn degree_at(table: &[u8], heading: &[u16], start: u16, size: u16, k: usize, symbol: u16) -> u16
-    requires { ⌜ SoundFile (now table) × (start + size ≤ length (now heading)) ⌝ }
+fn degree_at(
+    table: &[u8],
+    symbols: u16,
+    pairs: u16,
+    heading: &[u16],
+    start: u16,
+    size: u16,
+    k: usize,
+    symbol: u16,
+) -> u16
+    requires { ⌜ Counted (now table) symbols pairs × (start + size ≤ length (now heading)) ⌝ }
     ensures { λ r. ⌜ DegreeAt (tableIn (now (table .entry))) (now (heading .entry)) start size k symbol r ⌝ }
 {
     // past its end there is no symbol
     if k >= size as usize {
         return 0;
     }
-    degree(table, symbol, heading[start as usize + k])
+    counted_degree(table, symbols, pairs, symbol, heading[start as usize + k])
 }
 
 // The set at position k: the symbols near enough to what stands there in every subterm.
@@ -72,6 +85,8 @@ pub fn set_at(
 // The least degree of a symbol with what stands at position k of the subterms.
 fn shared_at(
     table: &[u8],
+    symbols: u16,
+    pairs: u16,
     heading: &[u16],
     starts: &[u16],
     sizes: &[u16],
@@ -79,14 +94,23 @@ fn shared_at(
     k: usize,
     symbol: u16,
 ) -> u16
-    requires { ⌜ SoundFile (now table) × Within (now heading) (now starts) (now sizes) count ⌝ }
+    requires { ⌜ Counted (now table) symbols pairs × Within (now heading) (now starts) (now sizes) count ⌝ }
     ensures { λ r. ⌜ SharedAt (tableIn (now (table .entry))) (now (heading .entry)) (now (starts .entry)) (now (sizes .entry)) k symbol count r ⌝ }
 {
     let mut least: u16 = 1000;
     for o in 0..count {
         least = lesser(
             least,
-            degree_at(table, heading, starts[o], sizes[o], k, symbol),
+            degree_at(
+                table,
+                symbols,
+                pairs,
+                heading,
+                starts[o],
+                sizes[o],
+                k,
+                symbol,
+            ),
         );
     }
     least
@@ -111,16 +135,34 @@ fn shared_degrees(
     ensures { λ r. ⌜ ((cut : ℕ) → DegreesAt (tableIn (now (table .entry))) (now (heading .entry)) (now (starts .entry)) (now (sizes .entry)) k cut (set .words) count (r .lowest) (r .highest)) ⌝ }
 {
     let symbols = symbol_count(table);
+    let pairs = pair_count(table);
     let mut lowest: u16 = 1000;
     let mut highest: u16 = 0;
     for s in 0..symbols {
         if set.has(s) {
-            let least = shared_at(table, heading, starts, sizes, count, k, s);
+            let least = shared_at(table, symbols, pairs, heading, starts, sizes, count, k, s);
             lowest = lesser(lowest, least);
             highest = greater(highest, least);
         }
     }
     Degrees { lowest, highest }
+}
+
+// Whether the same symbol stands at position k of every subterm.
+fn same_at(heading: &[u16], starts: &[u16], sizes: &[u16], count: usize, k: usize) -> bool
+    requires { ⌜ Within (now heading) (now starts) (now sizes) count × (0 < count) × (k < getD (now sizes) 0 0) ⌝ }
+    ensures { λ r. ⌜ (r ≡ true) ↔ SameAt (now (heading .entry)) (now (starts .entry)) (now (sizes .entry)) k count ⌝ }
+{
+    let symbol = heading[starts[0] as usize + k];
+    for o in 1..count {
+        if k >= sizes[o] as usize {
+            return false;
+        }
+        if heading[starts[o] as usize + k] != symbol {
+            return false;
+        }
+    }
+    true
 }
 
 // The lowest and the highest degree at position k, where this is the set.
@@ -137,8 +179,8 @@ pub fn degrees_at(
     requires { ⌜ SoundFile (now table) × Covers (now heading) (now near) × Within (now heading) (now starts) (now sizes) count × (0 < count) × (k < getD (now sizes) 0 0) ⌝ }
     ensures { λ r. ⌜ ((cut : ℕ) → NearOf (tableIn (now (table .entry))) cut (now (near .entry)) (now (heading .entry)) → DegreesAt (tableIn (now (table .entry))) (now (heading .entry)) (now (starts .entry)) (now (sizes .entry)) k cut (set .words) count (r .lowest) (r .highest)) ⌝ }
 {
-    // with one subterm, the set is the near set of what stands there: its lowest degree is kept, and what stands there is in it
-    if count == 1 {
+    // then the set is the near set of that symbol: its lowest degree is kept, and the symbol itself is in it
+    if same_at(heading, starts, sizes, count, k) {
         let symbol = heading[starts[0] as usize + k];
         return Degrees {
             lowest: lowest_of(near, symbol),

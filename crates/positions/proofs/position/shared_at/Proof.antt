@@ -11,11 +11,11 @@ use Rattle.positions.proofs.position.shared_at.Statement.{statement}
 use Rattle.positions.proofs.position.shared_at.Tie as tie
 
 abbrev Inv-loop : tie.InvT-loop
-Inv-loop table heading starts sizes count k symbol least₀ o₀ least o =
+Inv-loop table symbols pairs heading starts sizes count k symbol least₀ o₀ least o =
     (o ≤ count) × SharedAt (tableIn table) heading starts sizes k symbol o least
 
 abbrev μ-loop : tie.MeasureT-loop
-μ-loop table heading starts sizes count k symbol least₀ o₀ least o = count - o
+μ-loop table symbols pairs heading starts sizes count k symbol least₀ o₀ least o = count - o
 
 loop-holds : tie.Need-loop-holds Inv-loop μ-loop
 loop-holds c =
@@ -52,7 +52,7 @@ loop-again : tie.Need-loop-again Inv-loop μ-loop
 loop-again c =
     let p = c .before .before .before .before .before .before .before .before .before .before .pre in
     let before = c .before .before .before .before .before .loop .inv .1 in
-    (omega arith, shared-next (sound _ (p .0) .lawful) _ _ _ _ _ _ _ _ _ (c .before .degree-at .ensures) (c .lesser .ensures) before)
+    (omega arith, shared-next (sound _ (p .0 .sound) .lawful) _ _ _ _ _ _ _ _ _ (c .before .degree-at .ensures) (c .lesser .ensures) before)
 
 returns : tie.Need-returns Inv-loop μ-loop
 returns c =

@@ -11,14 +11,17 @@ use Rattle.positions.proofs.position.shared_degrees.Statement.{statemen
 use Rattle.positions.proofs.position.shared_degrees.Tie as tie
 
 abbrev Inv-loop : tie.InvT-loop
-Inv-loop table heading starts sizes count k set symbols lowest₀ highest₀ s₀ lowest highest s =
+Inv-loop table heading starts sizes count k set symbols pairs lowest₀ highest₀ s₀ lowest highest s =
     (s ≤ symbols) × RatedBelow (tableIn table) heading starts sizes k count (set .words) s lowest highest
 
 abbrev μ-loop : tie.MeasureT-loop
-μ-loop table heading starts sizes count k set symbols lowest₀ highest₀ s₀ lowest highest s = symbols - s
+μ-loop table heading starts sizes count k set symbols pairs lowest₀ highest₀ s₀ lowest highest s = symbols - s
 
 symbol-count-requires : tie.Need-symbol-count-requires Inv-loop μ-loop
 symbol-count-requires c κs = search needs
+
+pair-count-requires : tie.Need-pair-count-requires Inv-loop μ-loop
+pair-count-requires c κs = search needs
 
 loop-holds : tie.Need-loop-holds Inv-loop μ-loop
 loop-holds c = (omega arith, λ ts g. (refl, refl))
@@ -43,7 +46,7 @@ loop-less c = search needs
 
 loop-again : tie.Need-loop-again Inv-loop μ-loop
 loop-again c =
-    let a = c .before .before .before .before .before .before .before .before .before .args in
+    let a = c .before .before .before .before .before .before .before .before .before .before .args in
     let T = tableIn (a .table .now) in
     let asked = inv (c .before .has .ensures) in
     let before = c .before .before .before .loop .inv .1 in (
@@ -56,9 +59,9 @@ loop-again c =
 
 returns : tie.Need-returns Inv-loop μ-loop
 returns c =
-    let a = c .before .before .before .before .before .before .before .args in
+    let a = c .before .before .before .before .before .before .before .before .args in
     let T = tableIn (a .table .now) in
-    let e : c .before .loop .s ≡ T .size = omega (arith, c .before .before .symbol-count .ensures) in
+    let e : c .before .loop .s ≡ T .size = omega (arith, c .before .before .before .symbol-count .ensures) in
     rated-all T _ _ _ (a .k) _ _ _ _ (rw e at (c .before .loop .inv .1))
 
 pub shared-degrees-spec : {M : Type 1} → statement M
@@ -68,6 +71,7 @@ shared-degrees-spec =
     Inv-loop
     μ-loop
     symbol-count-requires
+    pair-count-requires
     loop-holds
     has-requires
     shared-at-requires
