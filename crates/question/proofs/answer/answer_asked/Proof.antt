@@ -54,10 +54,10 @@ copy-nodes-requires-2 : tie.Need-copy-nodes-requires-2
 copy-nodes-requires-2 c κs = fits (c .before .before .before .before .before .before .before .before .before .before .before)
 
 sub-match-heading : tie.Need-sub-match-heading
-sub-match-heading c = fits (c .before .before .before .before .before .before .before .before .before .before .before .before .before)
+sub-match-heading c = omega (arith, fits (c .before .before .before .before .before .before .before .before .before .before .before .before .before))
 
 part-match-heading-start : tie.Need-part-match-heading-start
-part-match-heading-start c = fits (c .before .before .before .before .before .before .before .before .before .before .before .before .before)
+part-match-heading-start c = omega (arith, fits (c .before .before .before .before .before .before .before .before .before .before .before .before .before))
 
 part-match-heading-end : tie.Need-part-match-heading-end
 part-match-heading-end c = search needs
