@@ -5,25 +5,12 @@ ghost use lib.ListN.{length, getD};
 ghost use Rattle.meaning.specs.Limits.{setWords};
 ghost use Rattle.meaning.specs.File.{tableIn};
 ghost use Rattle.meaning.specs.Refusals.{SoundFile};
-ghost use Rattle.meaning.specs.Over.{over};
 ghost use Rattle.positions.specs.Facing.{Within, Covers};
 ghost use Rattle.positions.specs.Variable.{VariablePacked};
 use crate::position::degrees_at;
 use crate::position::lesser;
 use crate::position::set_at;
 use sets::SymbolSet;
-
-// The set's words at position p.
-fn put_set(sets: &mut [u64], p: usize, set: SymbolSet)
-    requires { ⌜ setWords * (p + 1) ≤ length (now sets) ⌝ }
-    ensures { λ _. ⌜ now (sets .exit) ≡ over (now (sets .entry)) (setWords * p) (set .words) ⌝ }
-{
-    let words = set.words;
-    let at = SymbolSet::WORDS * p;
-    for i in 0..SymbolSet::WORDS {
-        sets[at + i] = words[i];
-    }
-}
 
 pub struct Found {
     // some term may stand for the variable
@@ -54,7 +41,7 @@ pub fn pack_variable(
     // the first subterm has as many nodes as the variable has positions
     for k in 0..sizes[0] as usize {
         let set = set_at(near, heading, starts, sizes, count, k);
-        put_set(sets, at + k, set);
+        set.put(sets, SymbolSet::WORDS * (at + k));
         if set.is_empty() {
             formed = false;
         }

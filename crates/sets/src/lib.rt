@@ -1,12 +1,14 @@
 // Sets of symbols as words of bits, made, asked and combined by value.
 //
-// Every contract speaks of members only. That the words themselves follow from the members is `same-set` of proofs/Laws.
+// Contracts speak of members, but where words are put into a list. That the words themselves follow from the members is `same-set` of proofs/Laws.
 ghost use mathlib.Core.Path.{_≡_};
 ghost use mathlib.Core.Bool.{true, false, _&&_, _||_};
 ghost use mathlib.Core.Logic.{_↔_};
-ghost use Prim.Native.Nat.{ℕ, _<_};
+ghost use Prim.Native.Nat.{ℕ, _+_, _≤_, _<_};
 ghost use lib.Dec.{eqb};
-ghost use Rattle.meaning.specs.Limits.{setRoom};
+ghost use lib.ListN.{length};
+ghost use Rattle.meaning.specs.Limits.{setWords, setRoom};
+ghost use Rattle.meaning.specs.Over.{over};
 ghost use Rattle.meaning.specs.Buffers.{member};
 
 // A set of symbols: the first word tells of the first symbols, from its lowest bit up, and each word goes on from the one before.
@@ -74,6 +76,17 @@ impl SymbolSet {
             words[i] = ours[i] | theirs[i];
         }
         SymbolSet { words }
+    }
+
+    // Puts the set's words into a list, from index `at` on.
+    pub fn put(self, list: &mut [u64], at: usize)
+        requires { ⌜ at + setWords ≤ length (now list) ⌝ }
+        ensures { λ _. ⌜ now (list .exit) ≡ over (now (list .entry)) at (self .words) ⌝ }
+    {
+        let words = self.words;
+        for w in 0..SymbolSet::WORDS {
+            list[at + w] = words[w];
+        }
     }
 
     // Whether the set has no symbol.

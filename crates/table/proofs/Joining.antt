@@ -1,95 +1,115 @@
--- Near sets as bits: a symbol joins a set by one bit and leaves every other where it was, and what is kept with the set can only grow.
-use mathlib.Core.Path.{_≡_, refl, sym as inv, ap, ap₂, _∙_, subst}
-use mathlib.Core.List.{List}
+-- A set that is laid over the words of a symbol leaves those of every other as they were, and what is kept with it can only grow.
+use mathlib.Core.Path.{_≡_, refl, sym as inv, ap, _∙_, subst}
+use mathlib.Core.Logic.{_⊎_, inl, inr}
+use mathlib.Core.List.{List, _++_, append-assoc}
 use mathlib.Core.Bool.{Bool, true, false, _&&_, _||_, cond, and-false, or-false}
-use Prim.Native.Nat.{ℕ, _+_, _-_, _*_, _/_, _%_, _^_, _≤_, _<_, max}
+use Prim.Native.Nat.{ℕ, _+_, _-_, _*_, _/_, _%_, _≤_, _<_, max}
 use native.Mathlib.Decide.{decLt, ℕ-discrete}
 use native.Mathlib.Omega.{arith}
 use borrow.Author.Tests.{lt-ltb, le-ltb, le-leb, lt-leb, eq-eqb, ne-eqb}
-use lib.Bits.{bitOr}
 use lib.Dec.{ltb, eqb}
-use lib.ListN.{length, getD, set, length-set}
-use lib.Seq.{getD-set-same, getD-set-other}
+use lib.ListN.{length, getD, set, take, drop, List·getD-append}
+use lib.Seq.{getD-set-same, getD-set-other, getD-take, getD-drop, getD-append-add, length-take-le}
 use Rattle.meaning.specs.Limits.{wordBits, setWords, setRoom}
 use Rattle.meaning.specs.Calls.{zeros}
 use Rattle.meaning.specs.Buffers.{bit, member}
 use Rattle.meaning.proofs.Bits.{bit-zero, getD-zeros}
-use Rattle.sets.proofs.Word.{or-bit, bit-power}
+use Rattle.meaning.specs.Over.{over}
+use Rattle.meaning.proofs.Over.{length-over}
 use Rattle.table.specs.Near.{nearWords, inNear, farthest, OwnSets, Joined, PairJoined}
+
+-- ---- numbers laid over a list
+
+module _ (out : List ℕ) (at : ℕ) (xs : List ℕ) (i : ℕ) (room : at + length xs ≤ length out) where
+  abbrev rest : List ℕ
+  rest = xs ++ drop (at + length xs) out
+
+  in-front : over out at xs ≡ take at out ++ rest
+  unfolding over
+  in-front = append-assoc (take at out) xs (drop (at + length xs) out)
+
+  front : length (take at out) ≡ at
+  front = length-take-le at out (omega arith)
+
+  past-front : (n : ℕ) → getD (over out at xs) (at + n) 0 ≡ getD rest n 0
+  past-front n =
+      ap (λ (l : List ℕ). getD l (at + n) 0) in-front
+      ∙ ap (λ (m : ℕ). getD (take at out ++ rest) (m + n) 0) (inv front)
+      ∙ getD-append-add (take at out) rest n 0
+
+  -- LAW: in front of them, among them, behind them
+  over-before : i < at → getD (over out at xs) i 0 ≡ getD out i 0
+  over-before l =
+      ap (λ (l : List ℕ). getD l i 0) in-front
+      ∙ List·getD-append (take at out) rest 0 i (omega (arith, front))
+      ∙ getD-take at out i 0 l
+
+  over-inside : i < length xs → getD (over out at xs) (at + i) 0 ≡ getD xs i 0
+  over-inside l = past-front i ∙ List·getD-append xs (drop (at + length xs) out) 0 i l
+
+  over-behind : at + length xs ≤ i → getD (over out at xs) i 0 ≡ getD out i 0
+  over-behind l =
+      let n = i - (at + length xs) in
+      let e : i ≡ at + (length xs + n) = omega arith in
+      let f : at + length xs + n ≡ i = omega arith in
+      ap (λ (i : ℕ). getD (over out at xs) i 0) e
+      ∙ past-front (length xs + n)
+      ∙ getD-append-add xs (drop (at + length xs) out) n 0
+      ∙ getD-drop (at + length xs) out n 0
+      ∙ ap (λ (i : ℕ). getD out i 0) f
 
 -- ---- one symbol more
 
--- a bit is set in the word of k among those of h, and the last word of h grows to what 1000 is above the degree
-module _ (near : List ℕ) (h k degree : ℕ) (below : k < setRoom) (room : nearWords * (h + 1) ≤ length near) where
-  abbrev wordAt : ℕ
-  wordAt = nearWords * h + k / wordBits
+-- the words of h are laid over the list, and its last word grows to what 1000 is above the degree
+module _ (near : List ℕ) (h k degree : ℕ) (room : nearWords * (h + 1) ≤ length near) (words : List ℕ) (four : length words ≡ setWords) where
+  abbrev with-set : List ℕ
+  with-set = over near (nearWords * h) words
 
   abbrev farAt : ℕ
   farAt = nearWords * h + setWords
 
-  abbrev with-bit : List ℕ
-  with-bit = set near wordAt (bitOr (getD near wordAt 0) (2 ^ (k % wordBits)))
-
-  abbrev with-both : List ℕ
-  with-both = set with-bit farAt (max (getD with-bit farAt 0) (1000 - degree))
-
   -- a word of a set is no last word
-  set-word : (p j : ℕ) → j < setRoom → (v : ℕ) → getD (set with-bit farAt v) (nearWords * p + j / wordBits) 0 ≡ getD with-bit (nearWords * p + j / wordBits) 0
-  set-word p j l v = getD-set-other with-bit farAt (nearWords * p + j / wordBits) v 0 (λ e. omega arith)
+  set-word : (p j : ℕ) → j < setRoom → (v : ℕ) → getD (set with-set farAt v) (nearWords * p + j / wordBits) 0 ≡ getD with-set (nearWords * p + j / wordBits) 0
+  set-word p j l v = getD-set-other with-set farAt (nearWords * p + j / wordBits) v 0 (λ e. omega arith)
 
-  far-word : (p : ℕ) → getD with-bit (nearWords * p + setWords) 0 ≡ getD near (nearWords * p + setWords) 0
-  far-word p = getD-set-other near wordAt (nearWords * p + setWords) _ 0 (λ e. omega arith)
+  outside : (i : ℕ) → (i < nearWords * h) ⊎ (farAt ≤ i) → getD with-set i 0 ≡ getD near i 0
+  outside i (inl l) = over-before near (nearWords * h) words i (omega arith) l
+  outside i (inr l) = over-behind near (nearWords * h) words i (omega arith) (omega arith)
 
-  same-bit : (p j : ℕ) → p ≡ h → j / wordBits ≡ k / wordBits → eqb (j % wordBits) (k % wordBits) ≡ (eqb p h && eqb j k)
-  same-bit p j e q = rw (eq-eqb p h e) (go (ℕ-discrete j k))
+  its-own : (j : ℕ) → j < setRoom → bit (j % wordBits) (getD with-set (nearWords * h + j / wordBits) 0) ≡ member words j
+  unfolding member
+  its-own j l = ap (bit (j % wordBits)) (over-inside near (nearWords * h) words (j / wordBits) (omega arith) (omega arith))
+
+  with-joined : (far : ℕ) → ((j : ℕ) → j < setRoom → member words j ≡ (inNear near h j || eqb j k))
+      → far ≡ max (getD with-set farAt 0) (1000 - degree) → Joined h k degree near (set with-set farAt far)
+  unfolding inNear farthest
+  with-joined far more e = record { has = λ p j l. ap (bit (j % wordBits)) (set-word p j l far) ∙ has p j l (ℕ-discrete p h) (decLt p h); far = λ p. fars p (ℕ-discrete p h) (decLt p h) }
     where
-      go : Dec (j ≡ k) → eqb (j % wordBits) (k % wordBits) ≡ eqb j k
-      go (yes e) = eq-eqb _ _ (ap (λ (i : ℕ). i % wordBits) e) ∙ inv (eq-eqb j k e)
-      go (no n) = ne-eqb (j % wordBits) (k % wordBits) (λ r. n (omega arith)) ∙ inv (ne-eqb j k n)
+      has : (p j : ℕ) → j < setRoom → Dec (p ≡ h) → Dec (p < h) → bit (j % wordBits) (getD with-set (nearWords * p + j / wordBits) 0) ≡ (inNear near p j || (eqb p h && eqb j k))
+      has p j l (yes q) d =
+          rw (eq-eqb p h q)
+          (ap (λ (p : ℕ). bit (j % wordBits) (getD with-set (nearWords * p + j / wordBits) 0)) q
+          ∙ its-own j l
+          ∙ more j l
+          ∙ ap (λ (p : ℕ). inNear near p j || eqb j k) (inv q))
+      has p j l (no q) (yes d) = rw (ne-eqb p h q) (ap (bit (j % wordBits)) (outside _ (inl (omega arith))) ∙ inv (or-false _))
+      has p j l (no q) (no d) = rw (ne-eqb p h q) (ap (bit (j % wordBits)) (outside _ (inr (omega arith))) ∙ inv (or-false _))
 
-  another : (p j : ℕ) → (nearWords * p + j / wordBits ≡ wordAt → ⊥) → (eqb p h && eqb j k) ≡ false
-  another p j n = go (ℕ-discrete p h) (ℕ-discrete j k)
-    where
-      go : Dec (p ≡ h) → Dec (j ≡ k) → (eqb p h && eqb j k) ≡ false
-      go (yes a) (yes b) = absurd (n (omega (arith, ap (λ (i : ℕ). i / wordBits) b)))
-      go (yes a) (no b) = rw (ne-eqb j k b) (and-false (eqb p h))
-      go (no a) b = rw (ne-eqb p h a)
+      fars : (p : ℕ) → Dec (p ≡ h) → Dec (p < h) → farthest (set with-set farAt far) p ≡ cond (eqb p h) (max (farthest near p) (1000 - degree)) (farthest near p)
+      fars p (yes q) d =
+          rw (eq-eqb p h q)
+          (ap (farthest (set with-set farAt far)) q
+          ∙ getD-set-same with-set farAt far 0 (omega (arith, length-over near (nearWords * h) words (omega arith)))
+          ∙ e
+          ∙ ap (λ (n : ℕ). max n (1000 - degree)) (outside farAt (inr (omega arith)) ∙ ap (farthest near) (inv q)))
+      fars p (no q) (yes d) = rw (ne-eqb p h q) (getD-set-other with-set farAt (nearWords * p + setWords) far 0 (λ e. q (omega arith)) ∙ outside _ (inl (omega arith)))
+      fars p (no q) (no d) = rw (ne-eqb p h q) (getD-set-other with-set farAt (nearWords * p + setWords) far 0 (λ e. q (omega arith)) ∙ outside _ (inr (omega arith)))
 
-  one-bit : (p j : ℕ) → j < setRoom → bit (j % wordBits) (getD with-bit (nearWords * p + j / wordBits) 0) ≡ (inNear near p j || (eqb p h && eqb j k))
-  unfolding inNear
-  one-bit p j l = go (ℕ-discrete (nearWords * p + j / wordBits) wordAt)
-    where
-      go : Dec (nearWords * p + j / wordBits ≡ wordAt) → bit (j % wordBits) (getD with-bit (nearWords * p + j / wordBits) 0) ≡ (inNear near p j || (eqb p h && eqb j k))
-      go (yes e) =
-          ap (λ (i : ℕ). bit (j % wordBits) (getD with-bit i 0)) e
-          ∙ ap (bit (j % wordBits)) (getD-set-same near wordAt _ 0 (omega arith))
-          ∙ or-bit (j % wordBits) (getD near wordAt 0) (2 ^ (k % wordBits))
-          ∙ ap₂ _||_ (ap (λ (i : ℕ). bit (j % wordBits) (getD near i 0)) (inv e)) (bit-power (k % wordBits) (j % wordBits) ∙ same-bit p j (omega arith) (omega arith))
-      go (no n) = ap (bit (j % wordBits)) (getD-set-other near wordAt _ _ 0 n) ∙ inv (or-false _) ∙ ap (λ (b : Bool). inNear near p j || b) (inv (another p j n))
-
-  one-far : (p : ℕ) → farthest with-both p ≡ cond (eqb p h) (max (farthest near p) (1000 - degree)) (farthest near p)
-  unfolding farthest
-  one-far p = go (ℕ-discrete p h)
-    where
-      go : Dec (p ≡ h) → farthest with-both p ≡ cond (eqb p h) (max (farthest near p) (1000 - degree)) (farthest near p)
-      go (yes e) =
-          rw (eq-eqb p h e)
-          (ap (λ (p : ℕ). farthest with-both p) e
-          ∙ getD-set-same with-bit farAt _ 0 (omega (arith, length-set near wordAt (bitOr (getD near wordAt 0) (2 ^ (k % wordBits)))))
-          ∙ ap (λ (n : ℕ). max n (1000 - degree)) (far-word h ∙ ap (farthest near) (inv e)))
-      go (no n) = rw (ne-eqb p h n) (getD-set-other with-bit farAt (nearWords * p + setWords) _ 0 (λ e. n (omega arith)) ∙ far-word p)
-
-  both-joined : Joined h k degree near with-both
-  unfolding inNear
-  both-joined = record { has = λ p j l. ap (bit (j % wordBits)) (set-word p j l _) ∙ one-bit p j l; far = one-far }
-
-  -- LAW
-  pub joined : (b far : ℕ) → b ≡ 2 ^ (k % wordBits) → far ≡ max (getD (set near wordAt (bitOr (getD near wordAt 0) b)) farAt 0) (1000 - degree)
-      → Joined h k degree near (set (set near wordAt (bitOr (getD near wordAt 0) b)) farAt far)
-  joined b far e f =
-      let with : ℕ → List ℕ = λ b. set near wordAt (bitOr (getD near wordAt 0) b) in
-      let same = ap (λ b. set (with b) farAt far) e ∙ ap (set with-bit farAt) (f ∙ ap (λ b. max (getD (with b) farAt 0) (1000 - degree)) e) in
-      subst (Joined h k degree near) (inv same) both-joined
+  -- LAW: the set with k joined to it, where this is the list with its words
+  pub joined : (laid : List ℕ) (far : ℕ) → laid ≡ with-set → ((j : ℕ) → j < setRoom → member words j ≡ (inNear near h j || eqb j k))
+      → far ≡ max (getD laid farAt 0) (1000 - degree) → Joined h k degree near (set laid farAt far)
+  joined laid far is more e =
+      subst (λ l. far ≡ max (getD l farAt 0) (1000 - degree) → Joined h k degree near (set l farAt far)) (inv is) (with-joined far more) e
 
 -- LAW: both symbols of a pair that reaches the cut, one after the other
 pub pair-joined : (cut lower higher degree : ℕ) (before middle after : List ℕ) → cut ≤ degree → Joined lower higher degree before middle → Joined higher lower degree middle after

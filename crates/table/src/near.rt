@@ -23,14 +23,25 @@ fn greater(a: u64, b: u64) -> u64
     if a < b { b } else { a }
 }
 
+// The set of symbol h.
+pub fn set_of(near: &[u64], h: u16) -> SymbolSet
+    requires { ⌜ nearWords * (h + 1) ≤ length (now near) ⌝ }
+    ensures { λ r. ⌜ ((k : ℕ) → k < setRoom → member (r .words) k ≡ inNear (now (near .entry)) h k) ⌝ }
+{
+    let at = WORDS * h as usize;
+    SymbolSet {
+        words: [near[at], near[at + 1], near[at + 2], near[at + 3]],
+    }
+}
+
 // Puts symbol k, which has this degree with symbol h, into the set of h.
 fn join(near: &mut [u64], h: u16, k: u16, degree: u16)
     requires { ⌜ (nearWords * (h + 1) ≤ length (now near)) × (k < setRoom) × (degree ≤ 1000) ⌝ }
     ensures { λ _. ⌜ Joined h k degree (now (near .entry)) (now (near .exit)) ⌝ }
 {
     let at = WORDS * h as usize;
-    let word = at + (k / SymbolSet::BITS) as usize;
-    near[word] = near[word] | 1u64 << (k % SymbolSet::BITS);
+    let set = set_of(near, h).join(SymbolSet::of(k));
+    set.put(near, at);
     let far = at + SymbolSet::WORDS;
     near[far] = greater(near[far], (1000 - degree) as u64);
 }
@@ -72,18 +83,7 @@ pub fn near_sets(file: &[u8], cut: u16, near: &mut [u64])
     }
 }
 
-// The set of symbol h.
-pub fn set_of(near: &[u64], h: u16) -> SymbolSet
-    requires { ⌜ Kept (now near) h ⌝ }
-    ensures { λ r. ⌜ ((k : ℕ) → k < setRoom → member (r .words) k ≡ inNear (now (near .entry)) h k) ⌝ }
-{
-    let at = WORDS * h as usize;
-    SymbolSet {
-        words: [near[at], near[at + 1], near[at + 2], near[at + 3]],
-    }
-}
-
-// The lowest degree in that set.
+// The lowest degree in the set of symbol h.
 pub fn lowest_of(near: &[u64], h: u16) -> u16
     requires { ⌜ Kept (now near) h ⌝ }
     ensures { λ r. ⌜ r ≡ 1000 - farthest (now (near .entry)) h ⌝ }

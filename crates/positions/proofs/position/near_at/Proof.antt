@@ -27,7 +27,7 @@ shared-slice-read-set-of c = search needs
 set-of-requires : tie.Need-set-of-requires
 set-of-requires c κs =
     let s = c .before .before .before .before in
-    s .pre .0 (s .args .start + s .args .k) (omega (arith, s .pre .1))
+    s .pre .0 (s .args .start + s .args .k) (omega (arith, s .pre .1)) .0
 
 returns-2 : tie.Need-returns-2
 returns-2 c T cut known =

@@ -42,11 +42,14 @@ loop-holds c = (omega arith, refl, λ ts cut g known. packed-none _ _ ts _ _)
 set-at-requires : tie.Need-set-at-requires Inv-loop μ-loop
 set-at-requires c κs = search needs
 
-add-put-set : tie.Need-add-put-set Inv-loop μ-loop
-add-put-set c = search needs
+add-put : tie.Need-add-put Inv-loop μ-loop
+add-put c = search needs
 
-put-set-requires : tie.Need-put-set-requires Inv-loop μ-loop
-put-set-requires c κs = search needs
+mul-put : tie.Need-mul-put Inv-loop μ-loop
+mul-put c = search needs
+
+put-requires : tie.Need-put-requires Inv-loop μ-loop
+put-requires c κs = search needs
 
 is-empty-requires : tie.Need-is-empty-requires Inv-loop μ-loop
 is-empty-requires c κs = search needs
@@ -88,12 +91,12 @@ loop-again c =
     let set = chosen .set-at in
     let empty = met .before .is-empty in (
       omega arith,
-      put .put-set .kept .0 ∙ loop .inv .1,
+      put .put .kept .1 .0 ∙ loop .inv .1,
       λ ts cut g known.
           let is = set .ensures (tableIn (a .table .now)) cut known ts g in
           let degrees = c .before .before .degrees-at .ensures cut known ts g is in
           packed-next (tableIn (a .table .now)) cut ts (a .at) (a .sets .now) (loop .k) (set .result .words) (empty .result)
-          (loop .inv .2 ts cut g known) (omega (arith, start .pre .1)) (set-words chosen) is (put .put-set .ensures) (empty .ensures) (form-is met)
+          (loop .inv .2 ts cut g known) (omega (arith, start .pre .1)) (set-words chosen) is (put .put .ensures) (empty .ensures) (form-is met)
           (c .before .lesser .ensures ∙ ap (min (loop .lowest)) (degrees .0))
           (c .lesser2 .ensures ∙ ap (min (loop .highest)) (degrees .1)),
     )
@@ -117,8 +120,9 @@ pack-variable-spec =
     cast-k-end
     loop-holds
     set-at-requires
-    add-put-set
-    put-set-requires
+    add-put
+    mul-put
+    put-requires
     is-empty-requires
     degrees-at-requires
     lesser-requires

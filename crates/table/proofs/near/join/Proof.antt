@@ -1,13 +1,13 @@
--- One bit is set, in the word of k among those of h, and the last word of h grows if the degree is lower than all before.
+-- The set of h is laid back with k joined to it, and the last word of h grows if the degree is lower than all before.
 use borrow.Author.Needs.{needs}
-use mathlib.Core.Path.{_∙_}
-use Prim.Native.Nat.{_%_, _^_}
-use native.Mathlib.Nat.{one-mul}
-use native.Mathlib.Omega.{arith}
-use lib.Dec.{lit<}
-use lib.Pow.{shl-exact}
-use lib.ListN.{length-set}
-use Rattle.meaning.specs.Limits.{wordBits}
+use mathlib.Core.Path.{_≡_, ap₂, _∙_}
+use mathlib.Core.Bool.{_||_}
+use Prim.Native.Nat.{ℕ, _<_}
+use lib.Dec.{eqb}
+use lib.ListN.{length}
+use Rattle.meaning.specs.Limits.{setWords, setRoom}
+use Rattle.meaning.specs.Buffers.{member}
+use Rattle.table.specs.Near.{inNear}
 use Rattle.table.proofs.Joining.{joined}
 use Rattle.table.proofs.near.join.Statement.{statement}
 use Rattle.table.proofs.near.join.Tie as tie
@@ -15,29 +15,17 @@ use Rattle.table.proofs.near.join.Tie as tie
 mul-at : tie.Need-mul-at
 mul-at c = search needs
 
-cast-word : tie.Need-cast-word
-cast-word c = search needs
+set-of-requires : tie.Need-set-of-requires
+set-of-requires c κs = search needs
 
-add-word : tie.Need-add-word
-add-word c = search needs
+of-requires : tie.Need-of-requires
+of-requires c κs = search needs
 
-mul-near : tie.Need-mul-near
-mul-near c = search needs
+join-requires : tie.Need-join-requires
+join-requires c κs = search needs
 
-slice-read-near : tie.Need-slice-read-near
-slice-read-near c = search needs
-
-cast-near : tie.Need-cast-near
-cast-near c = search needs
-
-shl-near : tie.Need-shl-near
-shl-near c = search needs
-
-mul-near-2 : tie.Need-mul-near-2
-mul-near-2 c = search needs
-
-slice-write-near : tie.Need-slice-write-near
-slice-write-near c = search needs
+put-requires : tie.Need-put-requires
+put-requires c κs = search needs
 
 add-far : tie.Need-add-far
 add-far c = search needs
@@ -46,7 +34,7 @@ mul-greater : tie.Need-mul-greater
 mul-greater c = search needs
 
 slice-read-greater : tie.Need-slice-read-greater
-slice-read-greater c = let s = c .before .before .before in simp length-set (omega (arith, s .pre .0))
+slice-read-greater c = search needs
 
 sub-greater : tie.Need-sub-greater
 sub-greater c = search needs
@@ -57,42 +45,42 @@ cast-greater c = search needs
 greater-requires : tie.Need-greater-requires
 greater-requires c κs = search needs
 
-mul-near-3 : tie.Need-mul-near-3
-mul-near-3 c = search needs
+mul-near : tie.Need-mul-near
+mul-near c = search needs
 
-slice-write-near-2 : tie.Need-slice-write-near-2
-slice-write-near-2 c = let s = c .before .before .before .before in simp length-set (omega (arith, s .pre .0))
+slice-write-near : tie.Need-slice-write-near
+slice-write-near c = search needs
 
 same-length : tie.Need-same-length
 same-length c = search needs
 
 returns : tie.Need-returns
 returns c =
-    let a = c .before .before .before .before .args in
-    let p = c .before .before .before .before .pre in
-    let one = shl-exact 1 (a .k % wordBits) wordBits (lit< tt) (omega arith) ∙ one-mul (2 ^ (a .k % wordBits)) in
-    joined (a .near .now) (a .h) (a .k) (a .degree) (p .1) (p .0) _ _ one (c .greater .ensures)
+    let start = c .before .before .before .before .before .before .before .before .before .before .before in
+    let a = start .args in
+    let put = c .before .before .before .before .put in
+    let both = c .before .before .before .before .before .before in
+    let four : length (both .join .result .words) ≡ setWords = search needs in
+    let more : (j : ℕ) → j < setRoom → member (both .join .result .words) j ≡ (inNear (a .near .now) (a .h) j || eqb j (a .k)) =
+    λ j l. both .join .ensures j ∙ ap₂ _||_ (both .before .before .set-of .ensures j l) (both .before .of .ensures j) in
+    joined (a .near .now) (a .h) (a .k) (a .degree) (start .pre .0) _ four _ _ (put .ensures) more (c .greater .ensures)
 
 pub join-spec : {M : Type 1} → statement M
 join-spec =
     tie.close
     (tie.spec
     mul-at
-    cast-word
-    add-word
-    mul-near
-    slice-read-near
-    cast-near
-    shl-near
-    mul-near-2
-    slice-write-near
+    set-of-requires
+    of-requires
+    join-requires
+    put-requires
     add-far
     mul-greater
     slice-read-greater
     sub-greater
     cast-greater
     greater-requires
-    mul-near-3
-    slice-write-near-2
+    mul-near
+    slice-write-near
     same-length
     returns)
