@@ -154,11 +154,11 @@ fn same_at(heading: &[u16], starts: &[u16], sizes: &[u16], count: usize, k: usiz
     ensures { λ r. ⌜ (r ≡ true) ↔ SameAt (now (heading .entry)) (now (starts .entry)) (now (sizes .entry)) k count ⌝ }
 {
     let symbol = heading[starts[0] as usize + k];
-    for o in 1..count {
-        if k >= sizes[o] as usize {
+    for other in 1..count {
+        if k >= sizes[other] as usize {
             return false;
         }
-        if heading[starts[o] as usize + k] != symbol {
+        if heading[starts[other] as usize + k] != symbol {
             return false;
         }
     }

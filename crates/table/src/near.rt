@@ -15,7 +15,7 @@ use crate::read::symbol_count;
 use sets::SymbolSet;
 
 // How many words a symbol has: its set, and how far the lowest degree in the set is below 1000.
-const WORDS: usize = 5;
+const NEAR_WORDS: usize = 5;
 
 fn greater(a: u64, b: u64) -> u64
     ensures { λ r. ⌜ r ≡ max a b ⌝ }
@@ -28,7 +28,7 @@ pub fn set_of(near: &[u64], h: u16) -> SymbolSet
     requires { ⌜ nearWords * (h + 1) ≤ length (now near) ⌝ }
     ensures { λ r. ⌜ ((k : ℕ) → k < setRoom → member (r .words) k ≡ inNear (now (near .entry)) h k) ⌝ }
 {
-    let at = WORDS * h as usize;
+    let at = NEAR_WORDS * h as usize;
     SymbolSet {
         words: [near[at], near[at + 1], near[at + 2], near[at + 3]],
     }
@@ -39,7 +39,7 @@ fn join(near: &mut [u64], h: u16, k: u16, degree: u16)
     requires { ⌜ (nearWords * (h + 1) ≤ length (now near)) × (k < setRoom) × (degree ≤ 1000) ⌝ }
     ensures { λ _. ⌜ Joined h k degree (now (near .entry)) (now (near .exit)) ⌝ }
 {
-    let at = WORDS * h as usize;
+    let at = NEAR_WORDS * h as usize;
     let set = set_of(near, h).join(SymbolSet::of(k));
     set.put(near, at);
     let far = at + SymbolSet::WORDS;
@@ -88,5 +88,5 @@ pub fn lowest_of(near: &[u64], h: u16) -> u16
     requires { ⌜ Kept (now near) h ⌝ }
     ensures { λ r. ⌜ r ≡ 1000 - farthest (now (near .entry)) h ⌝ }
 {
-    1000 - near[WORDS * h as usize + SymbolSet::WORDS] as u16
+    1000 - near[NEAR_WORDS * h as usize + SymbolSet::WORDS] as u16
 }

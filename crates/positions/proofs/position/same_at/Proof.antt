@@ -11,10 +11,10 @@ use Rattle.positions.proofs.position.same_at.Statement.{statement}
 use Rattle.positions.proofs.position.same_at.Tie as tie
 
 abbrev Inv-loop : tie.InvT-loop
-Inv-loop heading starts sizes count k symbol o₀ o = (o ≤ count) × SameAt heading starts sizes k o
+Inv-loop heading starts sizes count k symbol other₀ other = (other ≤ count) × SameAt heading starts sizes k other
 
 abbrev μ-loop : tie.MeasureT-loop
-μ-loop heading starts sizes count k symbol o₀ o = count - o
+μ-loop heading starts sizes count k symbol other₀ other = count - other
 
 -- the node of a position of a subterm is in the heading
 inside : (s : tie.Start Inv-loop μ-loop) (o : ℕ) → o < s .args .count → s .args .k < getD (s .args .sizes .now) o 0
@@ -46,10 +46,10 @@ shared-slice-read-if1 : tie.Need-shared-slice-read-if1 Inv-loop μ-loop
 shared-slice-read-if1 c = search needs
 
 cast-if1 : tie.Need-cast-if1 Inv-loop μ-loop
-cast-if1 c = omega (arith, c .shared-slice-known3 .given (c .before .before .loop .o))
+cast-if1 c = omega (arith, c .shared-slice-known3 .given (c .before .before .loop .other))
 
 returns : tie.Need-returns Inv-loop μ-loop
-returns c = (λ e. absurd (false≢true e), λ same. absurd (omega (arith, same (c .before .before .before .loop .o) (omega arith) .0)))
+returns c = (λ e. absurd (false≢true e), λ same. absurd (omega (arith, same (c .before .before .before .loop .other) (omega arith) .0)))
 
 mul-if2 : tie.Need-mul-if2 Inv-loop μ-loop
 mul-if2 c = search needs
@@ -58,22 +58,22 @@ shared-slice-read-if2 : tie.Need-shared-slice-read-if2 Inv-loop μ-loop
 shared-slice-read-if2 c = search needs
 
 cast-if2 : tie.Need-cast-if2 Inv-loop μ-loop
-cast-if2 c = omega (arith, c .shared-slice-known4 .given (c .before .before .before .before .loop .o))
+cast-if2 c = omega (arith, c .shared-slice-known4 .given (c .before .before .before .before .loop .other))
 
 add-if2 : tie.Need-add-if2 Inv-loop μ-loop
-add-if2 c = omega (arith, inside (c .before .before .before .before .before .before .before) (c .before .before .before .before .loop .o) (omega arith) (omega arith))
+add-if2 c = omega (arith, inside (c .before .before .before .before .before .before .before) (c .before .before .before .before .loop .other) (omega arith) (omega arith))
 
 mul-if2-2 : tie.Need-mul-if2-2 Inv-loop μ-loop
-mul-if2-2 c = omega (arith, inside (c .before .before .before .before .before .before .before) (c .before .before .before .before .loop .o) (omega arith) (omega arith))
+mul-if2-2 c = omega (arith, inside (c .before .before .before .before .before .before .before) (c .before .before .before .before .loop .other) (omega arith) (omega arith))
 
 shared-slice-read-if2-2 : tie.Need-shared-slice-read-if2-2 Inv-loop μ-loop
-shared-slice-read-if2-2 c = inside (c .before .before .before .before .before .before .before .before) (c .before .before .before .before .before .loop .o) (omega arith) (omega arith)
+shared-slice-read-if2-2 c = inside (c .before .before .before .before .before .before .before .before) (c .before .before .before .before .before .loop .other) (omega arith) (omega arith)
 
 returns-2 : tie.Need-returns-2 Inv-loop μ-loop
-returns-2 c = (λ e. absurd (false≢true e), λ same. absurd (c .if2 .taken (same (c .before .before .before .before .before .before .loop .o) (omega arith) .1)))
+returns-2 c = (λ e. absurd (false≢true e), λ same. absurd (c .if2 .taken (same (c .before .before .before .before .before .before .loop .other) (omega arith) .1)))
 
-add-o : tie.Need-add-o Inv-loop μ-loop
-add-o c = search needs
+add-other : tie.Need-add-other Inv-loop μ-loop
+add-other c = search needs
 
 loop-less : tie.Need-loop-less Inv-loop μ-loop
 loop-less c = search needs
@@ -81,11 +81,11 @@ loop-less c = search needs
 loop-again : tie.Need-loop-again Inv-loop μ-loop
 loop-again c =
     let at = c .before .before .before .before .before .before .loop in
-    (omega arith, below-more _ (at .o) (at .inv .1) (omega arith, c .if2 .left))
+    (omega arith, below-more _ (at .other) (at .inv .1) (omega arith, c .if2 .left))
 
 returns-3 : tie.Need-returns-3 Inv-loop μ-loop
 returns-3 c =
-    let all : c .before .loop .o ≡ c .before .before .before .before .args .count = omega arith in
+    let all : c .before .loop .other ≡ c .before .before .before .before .args .count = omega arith in
     (λ e. rw all at (c .before .loop .inv .1), λ same. refl)
 
 pub same-at-spec : {M : Type 1} → statement M
@@ -111,7 +111,7 @@ same-at-spec =
     mul-if2-2
     shared-slice-read-if2-2
     returns-2
-    add-o
+    add-other
     loop-less
     loop-again
     returns-3)
