@@ -2,8 +2,8 @@
 -- one kept with that set, and the highest is 1000, that of the symbol with itself.
 use mathlib.Core.Path.{_≡_, refl, sym as inv, ap, _∙_}
 use mathlib.Core.List.{List, [], _∷_}
-use mathlib.Core.Bool.{Bool, true, _&&_, cond}
-use Prim.Native.Nat.{ℕ, zero, suc, _+_, _-_, _≤_, _<_, min}
+use mathlib.Core.Bool.{true, _&&_, cond}
+use Prim.Native.Nat.{ℕ, zero, suc, _+_, _-_, _≤_, _<_}
 use native.Mathlib.Omega.{arith}
 use borrow.Author.Tests.{lt-ltb, le-leb}
 use lib.Dec.{ltb, leb}
@@ -15,7 +15,7 @@ use Rattle.theory.specs.Match.{at, shared, inSet, lowestAt, highestAt}
 use Rattle.theory.specs.Stands.{Gathered}
 use Rattle.theory.proofs.Lemmas.{le-highest, and-true}
 use Rattle.meaning.proofs.Rated.{highestAt-top}
-use Rattle.table.specs.Near.{farthest, isNear}
+use Rattle.table.specs.Near.{farthest}
 use Rattle.positions.specs.Facing.{NearOf, SameAt, DegreesAt}
 use Rattle.positions.proofs.Standing.{at-inside}
 

@@ -8,7 +8,7 @@ use lib.Dec.{ltb, leb, eqb}
 use lib.ListN.{length, getD}
 use Rattle.theory.specs.Table.{Table}
 use Rattle.theory.specs.Least.{lowest}
-use Rattle.theory.specs.Pairs.{Pair, pair, isPair}
+use Rattle.theory.specs.Pairs.{isPair}
 use Rattle.meaning.specs.Limits.{wordBits, setWords, setRoom}
 use Rattle.meaning.specs.Calls.{zeros}
 use Rattle.meaning.specs.Buffers.{bit}

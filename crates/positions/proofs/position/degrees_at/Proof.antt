@@ -1,6 +1,5 @@
 -- One symbol in all subterms has its degrees kept with its near set; different ones share theirs.
 use borrow.Author.Needs.{needs}
-use mathlib.Core.Path.{_≡_}
 use Prim.Native.Nat.{_+_, _<_}
 use native.Mathlib.Omega.{arith}
 use lib.ListN.{length, getD}
