@@ -21,6 +21,7 @@ use Rattle.theory.proofs.Gathered.{at-node, at-past}
 use Rattle.meaning.specs.Limits.{setWords, setRoom}
 use Rattle.meaning.specs.Buffers.{member}
 use Rattle.meaning.proofs.Rated.{lowest-top}
+use Rattle.sets.specs.Words.{NoneBetween}
 use Rattle.sets.proofs.Laws.{none-past}
 use Rattle.table.specs.Near.{inNear}
 use Rattle.positions.specs.Facing.{NearOf, DegreeAt, NearAt, SharedAt, SetAt, DegreesAt}
@@ -135,6 +136,19 @@ module _ {T : Table} (L : Lawful T) (list starts sizes : List ℕ) (k : ℕ) whe
 
 -- ---- one symbol more
 
+-- numbers that do not pass the test bring nothing to the least nor to the most
+passed : (b : ℕ → Bool) (f : ℕ → ℕ) (m n : ℕ) → m ≤ n → ((s : ℕ) → m ≤ s → s < n → b s ≡ false)
+    → (fewest b f n ≡ fewest b f m) × (most b f n ≡ most b f m)
+passed b f m zero l none = let e : zero ≡ m = omega arith in (ap (fewest b f) e, ap (most b f) e)
+passed b f m (suc n) l none = go (decLt n m) (λ h. passed b f m n h (λ s a l. none s a (omega arith)))
+  where
+    go : Dec (n < m) → (m ≤ n → (fewest b f n ≡ fewest b f m) × (most b f n ≡ most b f m))
+        → (fewest b f (suc n) ≡ fewest b f m) × (most b f (suc n) ≡ most b f m)
+    go (yes h) before = let e : suc n ≡ m = omega arith in (ap (fewest b f) e, ap (most b f) e)
+    go (no h) before =
+        let same = before (omega arith) in
+        rw (none n (omega arith) (omega arith)) (omega (arith, same .0, lowest-top n (λ s. cond (b s) (f s) 1000)), omega (arith, same .1))
+
 module _ (T : Table) (list starts sizes : List ℕ) (k n : ℕ) (words : List ℕ) where
   -- `low` and `high` are the least and the most that a symbol of the words, below m, shares at position k with the first n subterms
   abbrev pub RatedBelow : ℕ → ℕ → ℕ → Type 0
@@ -150,13 +164,16 @@ module _ (T : Table) (list starts sizes : List ℕ) (k n : ℕ) (words : List �
       let last = one ts g in
       rw (add-one, e) (omega arith, omega arith)
 
-  -- LAW: the next symbol is none of the words'
-  pub rated-out : (m low high low′ high′ : ℕ) → member words m ≡ false → low′ ≡ low → high′ ≡ high → RatedBelow m low high
-      → RatedBelow (m + 1) low′ high′
-  rated-out m low high low′ high′ e f f′ h ts g =
+  -- LAW: the symbols from m on, below m′, are none of the words'
+  pub rated-out : (m m′ low high : ℕ) → m ≤ m′ → NoneBetween words m m′ → RatedBelow m low high → RatedBelow m′ low high
+  rated-out m m′ low high l none h ts g =
       let before = h ts g in
-      rw (add-one, e) (omega (arith, lowest-top m (λ s. cond (member words s) (shared T ts k s) 1000)), omega arith)
+      let same = passed (member words) (shared T ts k) m m′ l none in
+      (before .0 ∙ inv (same .0), before .1 ∙ inv (same .1))
 
   -- LAW: a set has no symbol but the table's
-  pub rated-all : (low high : ℕ) → RatedBelow (T .size) low high → (cut : ℕ) → DegreesAt T list starts sizes k cut words n low high
-  rated-all low high h cut ts g is = simp is at (h ts g)
+  pub rated-all : (m low high : ℕ) → T .size ≤ m → RatedBelow m low high → (cut : ℕ) → DegreesAt T list starts sizes k cut words n low high
+  rated-all m low high l h cut ts g is =
+      let before = simp is at (h ts g) in
+      let same = passed (inSet T cut ts k) (shared T ts k) (T .size) m l (λ s a _. rw (le-ltb s (T .size) a)) in
+      (before .0 ∙ same .0, before .1 ∙ same .1)

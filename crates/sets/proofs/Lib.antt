@@ -2,3 +2,4 @@
 pub mod Word
 pub mod Laws
 pub mod Making
+pub mod Next

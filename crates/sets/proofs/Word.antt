@@ -1,12 +1,14 @@
 -- The bits of one word. A number is its lowest bit and twice its half, and its other bits are those of the half; so bits determine the
--- number, and an operation that goes digit by digit goes bit by bit.
+-- number, an operation that goes digit by digit goes bit by bit, and the count of the zeros at a number's low end tells its lowest bit
+-- that is set.
 use mathlib.Core.Path.{_≡_, refl, sym as inv, ap, ap₂, _∙_}
 use mathlib.Core.Bool.{Bool, true, false, cond, _&&_, _||_}
-use Prim.Native.Nat.{ℕ, zero, suc, _+_, _*_, _/_, _%_, _^_, min, max, _<_}
-use native.Mathlib.Nat.{div-one}
+use Prim.Native.Nat.{ℕ, zero, suc, _+_, _*_, _/_, _%_, _^_, min, max, _≤_, _<_}
+use native.Mathlib.Nat.{div-one, not-suc-le-zero}
 use native.Mathlib.Omega.{arith}
 use lib.Dec.{eqb, eqb·zero-suc, eqb·suc-zero, eqb·suc-suc}
 use lib.Bits.{bitAnd, bitOr, and-step, or-step}
+use lib.Count.{trailingZeros, under}
 use Rattle.meaning.specs.Packing.{bits}
 use Rattle.meaning.specs.Buffers.{bit}
 use Rattle.meaning.proofs.Bits.{bit-zero, lowest-bit, next-bit}
@@ -43,6 +45,30 @@ bit-power zero (suc j) = next j 1 ∙ bit-zero j ∙ inv (eqb·suc-zero j)
 bit-power (suc k) zero = ap (bit 0) (doubled k) ∙ lowest-bit false (2 ^ k) ∙ inv (eqb·zero-suc k)
 bit-power (suc k) (suc j) =
     ap (bit (suc j)) (doubled k) ∙ next-bit false (2 ^ k) j ∙ bit-power k j ∙ inv (eqb·suc-suc j k)
+
+-- below as many bits as there are zeros at the low end, none is set
+pub low-clear : (d n i : ℕ) → i < trailingZeros d n → bit i n ≡ false
+unfolding trailingZeros
+low-clear zero n i l = absurd (not-suc-le-zero l)
+low-clear (suc d) n i l = go (n % 2) refl (low-clear d (n / 2)) i l
+  where
+    go : (r : ℕ) → n % 2 ≡ r → ((i : ℕ) → i < trailingZeros d (n / 2) → bit i (n / 2) ≡ false) → (i : ℕ) → i < under r (trailingZeros d (n / 2))
+        → bit i n ≡ false
+    go zero e half zero l = let z : n / 2 ^ 0 % 2 ≡ 0 = omega (arith, div-one n) in ap (λ n. eqb n 1) z
+    go zero e half (suc i) l = next i n ∙ half i (omega arith)
+    go (suc r) e half i l = absurd (not-suc-le-zero l)
+
+-- .. and the bit above them is, which is one of the j bits of a number that is not zero
+pub low-set : (d n j : ℕ) → 0 < n → n < 2 ^ j → j ≤ d → (trailingZeros d n < j) × (bit (trailingZeros d n) n ≡ true)
+unfolding trailingZeros
+low-set d n zero pos l m = absurd (omega arith)
+low-set zero n (suc j) pos l m = absurd (omega arith)
+low-set (suc d) n (suc j) pos l m = go (n % 2) refl (λ p. low-set d (n / 2) j p (omega arith) (omega arith))
+  where
+    go : (r : ℕ) → n % 2 ≡ r → (0 < n / 2 → (trailingZeros d (n / 2) < j) × (bit (trailingZeros d (n / 2)) (n / 2) ≡ true))
+        → (under r (trailingZeros d (n / 2)) < suc j) × (bit (under r (trailingZeros d (n / 2))) n ≡ true)
+    go zero e half = let h = half (omega arith) in (omega (arith, h .0), next (trailingZeros d (n / 2)) n ∙ h .1)
+    go (suc r) e half = let o : n / 2 ^ 0 % 2 ≡ 1 = omega (arith, div-one n) in (omega arith, ap (λ n. eqb n 1) o)
 
 -- an operation on words that goes digit by digit, by d, is g on each bit, where d is g on the four pairs of digits
 module _ (op d : ℕ → ℕ → ℕ) (g : Bool → Bool → Bool)

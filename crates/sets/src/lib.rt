@@ -10,6 +10,7 @@ ghost use lib.ListN.{length};
 ghost use Rattle.meaning.specs.Limits.{setWords, setRoom};
 ghost use Rattle.meaning.specs.Over.{over};
 ghost use Rattle.meaning.specs.Buffers.{member};
+ghost use Rattle.sets.specs.Words.{NextMember};
 
 // A set of symbols: the first word tells of the first symbols, from its lowest bit up, and each word goes on from the one before.
 #[repr(C)]
@@ -23,6 +24,9 @@ impl SymbolSet {
 
     // How many symbols a word tells of.
     pub const BITS: u16 = 64;
+
+    // How many symbols a set has room for.
+    pub const ROOM: u16 = 256;
 
     // The set of no symbol.
     pub fn empty() -> SymbolSet
@@ -43,13 +47,21 @@ impl SymbolSet {
         SymbolSet { words }
     }
 
-    // Whether symbol k is in the set.
-    pub fn has(self, k: u16) -> bool
-        requires { ⌜ k < setRoom ⌝ }
-        ensures { λ r. ⌜ r ≡ member (self .words) k ⌝ }
+    // The least symbol of the set that is not below `from`, or the room where there is none.
+    pub fn next(self, from: u16) -> u16
+        requires { ⌜ from ≤ setRoom ⌝ }
+        ensures { λ r. ⌜ NextMember setWords (self .words) from r ⌝ }
     {
         let words = self.words;
-        (words[(k / SymbolSet::BITS) as usize] >> (k % SymbolSet::BITS)) % 2 == 1
+        let mut k = from;
+        while k < SymbolSet::ROOM {
+            let rest = words[(k / SymbolSet::BITS) as usize] >> (k % SymbolSet::BITS);
+            if rest != 0 {
+                return k + u64::trailing_zeros(rest) as u16;
+            }
+            k = (k / SymbolSet::BITS + 1) * SymbolSet::BITS;
+        }
+        k
     }
 
     // The symbols that are in both sets.
