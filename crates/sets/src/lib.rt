@@ -47,6 +47,15 @@ impl SymbolSet {
         SymbolSet { words }
     }
 
+    // Whether symbol k is in the set.
+    pub fn has(self, k: u16) -> bool
+        requires { ⌜ k < setRoom ⌝ }
+        ensures { λ r. ⌜ r ≡ member (self .words) k ⌝ }
+    {
+        let words = self.words;
+        (words[(k / SymbolSet::BITS) as usize] >> (k % SymbolSet::BITS)) % 2 == 1
+    }
+
     // The least symbol of the set that is not below `from`, or the room where there is none.
     pub fn next(self, from: u16) -> u16
         requires { ⌜ from ≤ setRoom ⌝ }
