@@ -2,10 +2,10 @@
 use crate::input::Asked;
 use crate::matches::ask_match;
 use crate::say;
-use headings::tables::symbol_degree;
-use headings::term::degree_of_headings;
-use headings::term::nearer;
-use headings::term::subterm;
+use headings::degree_of_headings;
+use headings::nearer;
+use headings::subterm;
+use tables::symbol_degree;
 
 pub fn ask<'a>(asked: Asked, table: &[u8], first: &[u16], second: &'a [u16], third: &'a [u16]) {
     let kind = asked.kind;

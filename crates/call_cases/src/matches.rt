@@ -5,7 +5,7 @@ ghost use lib.ListN.{length};
 use crate::input::Asked;
 use crate::input::least;
 use crate::say;
-use headings::matches::match_heading;
+use matches::match_heading;
 use matching::search::Outcome;
 
 // Above every number of a span.

@@ -1,6 +1,6 @@
 // Answers as text, a line for each case. What follows the case's number begins with a space.
-use headings::tables::DegreeAnswer;
 use refusal::Refusal;
+use tables::DegreeAnswer;
 
 pub fn text(words: &[u8]) {
     io::write_all(1, words);

@@ -9,7 +9,7 @@ use Rattle.refusal.specs.declared.Refusal.{Refusal}
 use Rattle.matching.specs.Outcomes.{saidMatch}
 use Rattle.matching.specs.declared.search.Outcome.{Outcome}
 use Rattle.matching.specs.declared.search.Outcome.the-variants.{Match, Refused}
-use Rattle.headings.specs.Matching.{MatchHeading}
+use Rattle.matches.specs.Matching.{MatchHeading}
 use Rattle.capi.specs.Answers.{codeOf}
 use Rattle.capi.specs.Matching.{ShxMatch}
 use Rattle.capi.proofs.Told.{by-refusal, refused-code, gives-code}

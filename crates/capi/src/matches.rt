@@ -1,7 +1,7 @@
 // The match.
 ghost use Rattle.capi.specs.Matching.{ShxMatch};
 use crate::answer::refused;
-use headings::matches::match_heading;
+use matches::match_heading;
 use matching::search::Outcome;
 
 // The match of a pattern and a heading at a cut, with its degrees; 0 and 0 where it is refused.

@@ -1,14 +1,14 @@
 // The calls on a table.
 ghost use Rattle.capi.specs.Tables.{ShxTable, ShxSymbolDegree, ShxArity, ShxPair};
 use crate::answer::refused;
-use headings::tables::ArityAnswer;
-use headings::tables::DegreeAnswer;
-use headings::tables::PairAnswer;
-use headings::tables::TableAnswer;
-use headings::tables::arity_of;
-use headings::tables::is_table;
-use headings::tables::pair_of;
-use headings::tables::symbol_degree;
+use tables::ArityAnswer;
+use tables::DegreeAnswer;
+use tables::PairAnswer;
+use tables::TableAnswer;
+use tables::arity_of;
+use tables::is_table;
+use tables::pair_of;
+use tables::symbol_degree;
 
 // Whether the bytes are a table.
 #[no_mangle]

@@ -1,11 +1,11 @@
 // The calls on terms.
 ghost use Rattle.capi.specs.Terms.{ShxHeadingDegree, ShxSubterm, ShxNearer};
 use crate::answer::refused;
-use headings::tables::DegreeAnswer;
-use headings::term::Choice;
-use headings::term::choose;
-use headings::term::degree_of_headings;
-use headings::term::subterm;
+use headings::Choice;
+use headings::choose;
+use headings::degree_of_headings;
+use headings::subterm;
+use tables::DegreeAnswer;
 
 // How near two headings are.
 #[no_mangle]

@@ -1,8 +1,8 @@
 -- The promises are equations with the meaning, and what an answer says names it; each call's own proof stands in the crate `headings`.
-use Rattle.headings.proofs.OneTable.{one-table, one-symbol-degree, one-arity, one-pair-at}
+use Rattle.tables.proofs.OneTable.{one-table, one-symbol-degree, one-arity, one-pair-at}
 use Rattle.headings.proofs.OneTerm.{one-degree, one-subterm, one-nearer}
-use Rattle.headings.proofs.OneMatch.{one-match}
-use Rattle.headings.proofs.OneWriting.{one-writing}
+use Rattle.matches.proofs.OneMatch.{one-match}
+use Rattle.tables.proofs.OneWriting.{one-writing}
 use Rattle.demands.specs.Unique.{Unique}
 
 -- THEOREM

@@ -8,14 +8,14 @@ use Rattle.writer.specs.Said.{said}
 use Rattle.writer.specs.declared.Writing.{Writing}
 use Rattle.matching.specs.Outcomes.{resultOf}
 use Rattle.matching.specs.declared.search.Outcome.{Outcome}
-use Rattle.headings.specs.declared.tables.TableAnswer.{TableAnswer}
-use Rattle.headings.specs.declared.tables.DegreeAnswer.{DegreeAnswer}
-use Rattle.headings.specs.declared.tables.ArityAnswer.{ArityAnswer}
-use Rattle.headings.specs.declared.tables.PairAnswer.{PairAnswer}
-use Rattle.headings.specs.Tables.{saidTable, IsTable, saidDegree, SymbolDegree, saidArity, ArityOf, saidPair, PairAt}
+use Rattle.tables.specs.declared.TableAnswer.{TableAnswer}
+use Rattle.tables.specs.declared.DegreeAnswer.{DegreeAnswer}
+use Rattle.tables.specs.declared.ArityAnswer.{ArityAnswer}
+use Rattle.tables.specs.declared.PairAnswer.{PairAnswer}
+use Rattle.tables.specs.Tables.{saidTable, IsTable, saidDegree, SymbolDegree, saidArity, ArityOf, saidPair, PairAt}
 use Rattle.headings.specs.Terms.{Nodes, DegreeOfHeadings, Subterm, Nearer}
-use Rattle.headings.specs.Matching.{MatchHeading}
-use Rattle.headings.specs.Writing.{WriteTable}
+use Rattle.matches.specs.Matching.{MatchHeading}
+use Rattle.tables.specs.Writing.{WriteTable}
 use Rattle.demands.specs.Program.{Program}
 
 -- What a match, a writing returned and left.

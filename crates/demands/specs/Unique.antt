@@ -6,14 +6,14 @@ use Prim.Native.Nat.{ℕ}
 use denote.Ref.{now, ptr}
 use Rattle.writer.specs.declared.Writing.{Writing}
 use Rattle.matching.specs.declared.search.Outcome.{Outcome}
-use Rattle.headings.specs.declared.tables.TableAnswer.{TableAnswer}
-use Rattle.headings.specs.declared.tables.DegreeAnswer.{DegreeAnswer}
-use Rattle.headings.specs.declared.tables.ArityAnswer.{ArityAnswer}
-use Rattle.headings.specs.declared.tables.PairAnswer.{PairAnswer}
-use Rattle.headings.specs.Tables.{IsTable, SymbolDegree, ArityOf, PairAt}
+use Rattle.tables.specs.declared.TableAnswer.{TableAnswer}
+use Rattle.tables.specs.declared.DegreeAnswer.{DegreeAnswer}
+use Rattle.tables.specs.declared.ArityAnswer.{ArityAnswer}
+use Rattle.tables.specs.declared.PairAnswer.{PairAnswer}
+use Rattle.tables.specs.Tables.{IsTable, SymbolDegree, ArityOf, PairAt}
 use Rattle.headings.specs.Terms.{Nodes, DegreeOfHeadings, Subterm, Nearer}
-use Rattle.headings.specs.Matching.{MatchHeading}
-use Rattle.headings.specs.Writing.{WriteTable}
+use Rattle.matches.specs.Matching.{MatchHeading}
+use Rattle.tables.specs.Writing.{WriteTable}
 
 pub record Unique : Type 0 where
   pub is-table : (table : List ℕ) (r s : TableAnswer) → IsTable table r → IsTable table s → r ≡ s

@@ -5,11 +5,11 @@ use mathlib.Core.List.{List}
 use Prim.Native.Nat.{ℕ}
 use denote.Ref.{ptr, now}
 use Rattle.meaning.specs.Calls.{Part, part, subterm, Nearer as Which, theFirst, theSecond, neither, nearer}
-use Rattle.headings.specs.declared.tables.DegreeAnswer.{DegreeAnswer}
-use Rattle.headings.specs.declared.term.Choice.{Choice}
-use Rattle.headings.specs.declared.term.Choice.the-variants.{Neither, First, Second}
+use Rattle.tables.specs.declared.DegreeAnswer.{DegreeAnswer}
+use Rattle.headings.specs.declared.Choice.{Choice}
+use Rattle.headings.specs.declared.Choice.the-variants.{Neither, First, Second}
 use Rattle.headings.specs.Terms.{Nodes, DegreeOfHeadings, PartOf, IsPart, Subterm, IsChosen, Nearer, saidChoice, Choose}
-use Rattle.headings.proofs.OneTable.{one-said-degree}
+use Rattle.tables.proofs.OneTable.{one-said-degree}
 
 -- Both hold the same nodes and lie at the same place. A reference has nothing else that a program can see; the prover gives each part a name
 -- of its own besides, which no promise can speak of.

@@ -1,5 +1,2 @@
--- What each public call promises, a file for each module of calls.
-pub mod Tables
-pub mod Matching
+-- What the calls on headings and terms promise.
 pub mod Terms
-pub mod Writing

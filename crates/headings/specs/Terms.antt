@@ -11,10 +11,10 @@ use denote.Ref.{RefT, ptr, now}
 use Rattle.theory.specs.Read.{Reading, whole, faulty}
 use Rattle.meaning.specs.Refusals.{Refusal}
 use Rattle.meaning.specs.Calls.{headingDegree, Part, part, subterm, Nearer as Which, theFirst, theSecond, neither, nearer}
-use Rattle.headings.specs.declared.tables.DegreeAnswer.{DegreeAnswer}
-use Rattle.headings.specs.declared.term.Choice.{Choice}
-use Rattle.headings.specs.declared.term.Choice.the-variants.{Neither, First, Second}
-use Rattle.headings.specs.Tables.{saidDegree}
+use Rattle.tables.specs.declared.DegreeAnswer.{DegreeAnswer}
+use Rattle.headings.specs.declared.Choice.{Choice}
+use Rattle.headings.specs.declared.Choice.the-variants.{Neither, First, Second}
+use Rattle.tables.specs.Tables.{saidDegree}
 
 -- a reference to a list of nodes
 abbrev pub Nodes : Type 0

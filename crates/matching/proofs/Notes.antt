@@ -26,7 +26,7 @@ use Rattle.meaning.specs.Calls.{facesIn}
 use Rattle.meaning.specs.Search.{symbolWorth}
 use Rattle.meaning.specs.Over.{over}
 use Rattle.meaning.proofs.Sound.{sound}
-use Rattle.table.specs.Near.{nearWords, NearSets}
+use Rattle.near.specs.Near.{nearWords, NearSets}
 use Rattle.facing.specs.Faced.{ClearBy}
 use Rattle.positions.specs.Facing.{Within, Covers, NearOf}
 use Rattle.facing.specs.Gathering.{GatheredBy}

@@ -6,7 +6,7 @@ ghost use Rattle.meaning.specs.Limits.{setWords};
 ghost use Rattle.meaning.specs.File.{tableIn};
 ghost use Rattle.meaning.specs.Calls.{matchCall};
 ghost use Rattle.meaning.specs.Demands.{Accepted};
-ghost use Rattle.table.specs.Near.{Fresh};
+ghost use Rattle.near.specs.Near.{Fresh};
 ghost use Rattle.facing.specs.Faced.{ClearBy};
 ghost use Rattle.matching.specs.Pack.{Room};
 ghost use Rattle.matching.specs.Outcomes.{resultOf, emptied, outcomeOf};

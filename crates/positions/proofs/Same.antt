@@ -15,7 +15,7 @@ use Rattle.theory.specs.Match.{at, shared, inSet, lowestAt, highestAt}
 use Rattle.theory.specs.Stands.{Gathered}
 use Rattle.theory.proofs.Lemmas.{le-highest, and-true}
 use Rattle.meaning.proofs.Rated.{highestAt-top}
-use Rattle.table.specs.Near.{farthest}
+use Rattle.near.specs.Near.{farthest}
 use Rattle.positions.specs.Facing.{NearOf, SameAt, DegreesAt}
 use Rattle.positions.proofs.Standing.{at-inside}
 

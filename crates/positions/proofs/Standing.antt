@@ -23,7 +23,7 @@ use Rattle.meaning.specs.Buffers.{member}
 use Rattle.meaning.proofs.Rated.{lowest-top}
 use Rattle.sets.specs.Words.{NoneBetween}
 use Rattle.sets.proofs.Laws.{none-past}
-use Rattle.table.specs.Near.{inNear}
+use Rattle.near.specs.Near.{inNear}
 use Rattle.positions.specs.Facing.{NearOf, DegreeAt, NearAt, SharedAt, SetAt, DegreesAt}
 
 -- ---- one near set

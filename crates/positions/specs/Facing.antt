@@ -12,7 +12,7 @@ use Rattle.theory.specs.Stands.{StandsAt, Gathered}
 use Rattle.theory.specs.Match.{at, shared, inSet, lowestAt, highestAt}
 use Rattle.meaning.specs.Limits.{setRoom}
 use Rattle.meaning.specs.Buffers.{member}
-use Rattle.table.specs.Near.{Kept, NearSets}
+use Rattle.near.specs.Near.{Kept, NearSets}
 
 -- the first n starts and sizes are there, and each stays inside the list
 pub record Within (list starts sizes : List ℕ) (n : ℕ) : Type 0 where

@@ -4,31 +4,21 @@
 ghost use mathlib.Core.Path.{_≡_};
 ghost use mathlib.Core.Logic.{_↔_};
 ghost use mathlib.Core.Bool.{true};
-ghost use Prim.Native.Nat.{ℕ, _+_, _<_, _≤_, min, max};
+ghost use Prim.Native.Nat.{ℕ, _+_, _<_, _≤_};
 ghost use lib.ListN.{length, getD};
 ghost use Rattle.theory.specs.Table.{Table};
 ghost use Rattle.meaning.specs.File.{tableIn};
 ghost use Rattle.meaning.specs.Refusals.{SoundFile};
 ghost use Rattle.table.specs.Read.{Counted};
 ghost use Rattle.positions.specs.Facing.{Within, Covers, NearOf, SameAt, DegreeAt, NearAt, SharedAt, SetAt, DegreesAt};
+use degrees::counted_degree;
+use degrees::greater;
+use degrees::lesser;
+use near::lowest_of;
+use near::set_of;
 use sets::SymbolSet;
-use table::degree::counted_degree;
-use table::near::lowest_of;
-use table::near::set_of;
 use table::read::pair_count;
 use table::read::symbol_count;
-
-pub fn lesser(a: u16, b: u16) -> u16
-    ensures { λ r. ⌜ r ≡ min a b ⌝ }
-{
-    if a < b { a } else { b }
-}
-
-pub fn greater(a: u16, b: u16) -> u16
-    ensures { λ r. ⌜ r ≡ max a b ⌝ }
-{
-    if a < b { b } else { a }
-}
 
 // The symbols near enough to what stands at position k of one subterm, by the near sets of all symbols.
 fn near_at(near: &[u64], heading: &[u16], start: u16, size: u16, k: usize) -> SymbolSet

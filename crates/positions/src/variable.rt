@@ -7,8 +7,8 @@ ghost use Rattle.meaning.specs.Refusals.{SoundFile};
 ghost use Rattle.positions.specs.Facing.{Within, Covers};
 ghost use Rattle.positions.specs.Variable.{VariablePacked};
 use crate::position::degrees_at;
-use crate::position::lesser;
 use crate::position::set_at;
+use degrees::lesser;
 use sets::SymbolSet;
 
 pub struct Found {

@@ -16,7 +16,7 @@ use Rattle.meaning.specs.Calls.{Answer, refused, refusedAs, Degrees, zeros}
 use Rattle.meaning.specs.Program.{numbersFrom, cutIn, patternIn, headingIn, tableBytes, refusedText}
 use Rattle.matching.specs.Outcomes.{saidMatch}
 use Rattle.matching.specs.declared.search.Outcome.{Outcome}
-use Rattle.headings.specs.Matching.{MatchHeading}
+use Rattle.matches.specs.Matching.{MatchHeading}
 use Rattle.question.specs.declared.lines.Reply.{Reply}
 use Rattle.question.specs.declared.lines.Reply.the-variants.{Refused}
 use Rattle.question.specs.Lines.{textIn, matchedBy, replied}

@@ -14,7 +14,7 @@ use crate::nodes::fewer;
 use crate::shape::Header;
 use crate::shape::Shape;
 use crate::shape::take_apart;
-use headings::matches::match_heading;
+use matches::match_heading;
 use matching::search::Outcome;
 use sets::SymbolSet;
 use table::number::number_at;

@@ -3,7 +3,3 @@ pub mod Rising
 pub mod Pairs
 pub mod Rows
 pub mod Reading
-pub mod Halving
-pub mod Listed
-pub mod Joining
-pub mod Nearness

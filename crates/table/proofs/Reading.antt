@@ -8,13 +8,14 @@ use native.Mathlib.Omega.{arith}
 use borrow.Author.Tests.{ltb-false}
 use lib.Dec.{ltb}
 use lib.ListN.{length, getD}
-use Rattle.theory.proofs.Lemmas.{least-none}
+use Rattle.theory.specs.Pairs.{pair, SoundPair}
+use Rattle.theory.proofs.Lemmas.{least-none, all-getD}
 use Rattle.meaning.specs.Limits.{mostArguments}
-use Rattle.meaning.specs.File.{symbolCount, pairCount, aritiesIn, tableIn}
+use Rattle.meaning.specs.File.{symbolCount, pairCount, aritiesIn, pairsIn, tableIn}
 use Rattle.meaning.specs.Refusals.{SoundFile, row3, tableRows}
 use Rattle.meaning.specs.Tables.{arityByte, pairStart}
 use Rattle.meaning.proofs.First.{all-silent}
-use Rattle.meaning.proofs.Sound.{passed, length-aritiesIn}
+use Rattle.meaning.proofs.Sound.{passed, length-pairsIn, length-aritiesIn}
 use Rattle.meaning.proofs.Bytes.{arity-in}
 
 module _ (file : List ℕ) (sound : SoundFile file) where
@@ -40,3 +41,7 @@ module _ (file : List ℕ) (sound : SoundFile file) where
   -- LAW: a pair's six bytes stand in the file
   pub pair-inside : (k : ℕ) → k < pairCount file → pairStart file k + 6 ≤ length file
   pair-inside k l = omega (arith, passed file sound .length-is)
+
+  -- LAW: each pair of the file may be listed
+  pub sound-at : (k : ℕ) → k < pairCount file → SoundPair (aritiesIn file) (getD (pairsIn file) k (pair 0 0 0))
+  sound-at k l = all-getD (SoundPair (aritiesIn file)) (pairsIn file) k (pair 0 0 0) (omega (arith, length-pairsIn file)) (passed file sound .pairs)

@@ -1,4 +1,3 @@
-pub mod Found
 pub mod Keys
-pub mod Near
+pub mod Places
 pub mod Read

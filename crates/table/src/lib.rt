@@ -1,7 +1,4 @@
-// The table file: whether bytes are one, and what it says of its symbols and pairs.
-pub mod check;
-pub mod degree;
-pub mod near;
+// The table file: the rules that its arities and pairs keep, and what it says of its symbols and pairs.
 pub mod number;
 pub mod read;
 pub mod rules;

@@ -5,7 +5,7 @@ ghost use Prim.Native.Nat.{_+_, _*_, _<_};
 ghost use lib.Dec.{ltb};
 ghost use Rattle.theory.specs.Pairs.{pair};
 ghost use Rattle.meaning.specs.Refusals.{row, at0, row2, row3, unsound};
-ghost use Rattle.table.specs.Found.{placeIn};
+ghost use Rattle.table.specs.Places.{placeIn};
 ghost use Rattle.table.specs.Keys.{keyOf};
 
 pub enum Place {

@@ -3,7 +3,7 @@ ghost use mathlib.Core.Path.{_≡_};
 ghost use Rattle.meaning.specs.File.{tableIn};
 ghost use Rattle.meaning.specs.Refusals.{SoundFile};
 ghost use Rattle.terms.specs.Degrees.{Heading, degreeOf};
-use table::degree::counted_degree;
+use degrees::counted_degree;
 use table::read::pair_count;
 use table::read::symbol_count;
 

@@ -5,7 +5,7 @@ use mathlib.Core.Option.{none, some as just}
 use native.Mathlib.Omega.{arith}
 use lib.ListN.{length}
 use Rattle.meaning.specs.Refusals.{row, rowPlace, at0, row2, row3}
-use Rattle.table.specs.Found.{placeIn}
+use Rattle.table.specs.Places.{placeIn}
 use Rattle.writer.proofs.Rows.{Counted, counts-within, by-counts, by-arity, by-pair, by-room, by-none, arity-within}
 use Rattle.writer.proofs.verdict.Statement.{statement}
 use Rattle.writer.proofs.verdict.Tie as tie

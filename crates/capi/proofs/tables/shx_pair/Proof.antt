@@ -1,7 +1,7 @@
 -- The answer is known by its case, and goes out as the promise says: a pair by its three numbers.
 use borrow.Author.Needs.{needs}
 use mathlib.Core.Path.{sym, ap, _∙_}
-use Rattle.headings.specs.Tables.{saidPair}
+use Rattle.tables.specs.Tables.{saidPair}
 use Rattle.capi.specs.Tables.{lowerOf, higherOf, degreeOf}
 use Rattle.capi.proofs.Told.{refused-code, refused-later, gives-code, gives-later}
 use Rattle.capi.proofs.tables.shx_pair.Statement.{statement}

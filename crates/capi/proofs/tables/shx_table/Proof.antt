@@ -2,7 +2,7 @@
 use borrow.Author.Needs.{needs}
 use mathlib.Core.Path.{sym, ap, _∙_}
 use Rattle.meaning.specs.Calls.{aye}
-use Rattle.headings.specs.Tables.{saidTable}
+use Rattle.tables.specs.Tables.{saidTable}
 use Rattle.capi.proofs.Told.{refused-code, gives-code}
 use Rattle.capi.proofs.tables.shx_table.Statement.{statement}
 use Rattle.capi.proofs.tables.shx_table.Tie as tie

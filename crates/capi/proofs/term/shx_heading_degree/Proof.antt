@@ -1,7 +1,7 @@
 -- The answer is known by its case, and goes out as the promise says.
 use borrow.Author.Needs.{needs}
 use mathlib.Core.Path.{sym, ap, _∙_}
-use Rattle.headings.specs.Tables.{saidDegree}
+use Rattle.tables.specs.Tables.{saidDegree}
 use Rattle.capi.proofs.Told.{refused-code, refused-later, gives-code, gives-later}
 use Rattle.capi.proofs.term.shx_heading_degree.Statement.{statement}
 use Rattle.capi.proofs.term.shx_heading_degree.Tie as tie

@@ -1,0 +1,91 @@
+// The degree of two symbol numbers.
+ghost use mathlib.Core.Path.{_≡_};
+ghost use Prim.Native.Nat.{_+_, _<_, _≤_, min, max};
+ghost use lib.ListN.{length};
+ghost use Rattle.meaning.specs.File.{number, tableIn};
+ghost use Rattle.meaning.specs.Refusals.{SoundFile};
+ghost use Rattle.table.specs.Keys.{keyOf};
+ghost use Rattle.table.specs.Read.{Counted};
+use table::number::number_at;
+use table::read::pair_count;
+use table::read::symbol_count;
+use table::rules::key;
+
+// The key of the pair whose bytes start at i.
+fn key_from(bytes: &[u8], i: usize) -> u32
+    requires { ⌜ i + 3 < length (now bytes) ⌝ }
+    ensures { λ r. ⌜ r ≡ keyOf (number (now (bytes .entry)) i) (number (now (bytes .entry)) (i + 2)) ⌝ }
+{
+    key(number_at(bytes, i), number_at(bytes, i + 2))
+}
+
+// The degree listed for two symbols, 0 if none is: pairs stand by rising keys, so halving finds the one that is sought.
+fn listed_degree(file: &[u8], symbols: u16, pairs: u16, lower: u16, higher: u16) -> u16
+    requires { ⌜ Counted (now file) symbols pairs × (lower < higher) ⌝ }
+    ensures { λ r. ⌜ r ≡ tableIn (now (file .entry)) .deg lower higher ⌝ }
+{
+    let wanted = key(lower, higher);
+    let start = 10 + symbols as usize;
+    let mut low: usize = 0;
+    let mut high = pairs as usize;
+    while low < high {
+        let middle = (low + high) / 2;
+        let at = start + 6 * middle;
+        let found = key_from(file, at);
+        if found == wanted {
+            return number_at(file, at + 4);
+        }
+        if found < wanted {
+            low = middle + 1;
+        } else {
+            high = middle;
+        }
+    }
+    0
+}
+
+// The degree of two numbers, the first not the higher.
+fn ordered_degree(file: &[u8], symbols: u16, pairs: u16, lower: u16, higher: u16) -> u16
+    requires { ⌜ Counted (now file) symbols pairs × (lower ≤ higher) ⌝ }
+    ensures { λ r. ⌜ r ≡ tableIn (now (file .entry)) .deg lower higher ⌝ }
+{
+    // what is no symbol of the table is near nothing
+    if higher >= symbols {
+        return 0;
+    }
+    if lower == higher {
+        return 1000;
+    }
+    listed_degree(file, symbols, pairs, lower, higher)
+}
+
+// The degree of two numbers, for one who asks often and has read the counts once.
+pub fn counted_degree(file: &[u8], symbols: u16, pairs: u16, a: u16, b: u16) -> u16
+    requires { ⌜ Counted (now file) symbols pairs ⌝ }
+    ensures { λ r. ⌜ r ≡ tableIn (now (file .entry)) .deg a b ⌝ }
+{
+    if a <= b {
+        ordered_degree(file, symbols, pairs, a, b)
+    } else {
+        ordered_degree(file, symbols, pairs, b, a)
+    }
+}
+
+pub fn degree(file: &[u8], a: u16, b: u16) -> u16
+    requires { ⌜ SoundFile (now file) ⌝ }
+    ensures { λ r. ⌜ r ≡ tableIn (now (file .entry)) .deg a b ⌝ }
+{
+    counted_degree(file, symbol_count(file), pair_count(file), a, b)
+}
+
+pub fn lesser(a: u16, b: u16) -> u16
+    ensures { λ r. ⌜ r ≡ min a b ⌝ }
+{
+    if a < b { a } else { b }
+}
+
+pub fn greater(a: u16, b: u16) -> u16
+    ensures { λ r. ⌜ r ≡ max a b ⌝ }
+{
+    if a < b { b } else { a }
+}

@@ -1,0 +1,2 @@
+-- What the match promises.
+pub mod Matching

@@ -1,0 +1,3 @@
+-- Laws that the proofs of functions cite.
+mod Joining
+mod Nearness

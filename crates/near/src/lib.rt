@@ -1,0 +1,92 @@
+// The symbols near each symbol.
+ghost use mathlib.Core.Path.{_≡_};
+ghost use Prim.Native.Nat.{ℕ, _+_, _-_, _*_, _<_, _≤_, max};
+ghost use lib.ListN.{length};
+ghost use Rattle.meaning.specs.Limits.{setRoom};
+ghost use Rattle.meaning.specs.File.{tableIn};
+ghost use Rattle.meaning.specs.Refusals.{SoundFile};
+ghost use Rattle.meaning.specs.Calls.{zeros};
+ghost use Rattle.meaning.specs.Buffers.{member};
+ghost use Rattle.near.specs.Near.{nearWords, inNear, farthest, Fresh, Kept, NearSets, OwnSets, Joined, PairJoined};
+use sets::SymbolSet;
+use table::read::Pair;
+use table::read::pair_count;
+use table::read::pair_from;
+use table::read::symbol_count;
+
+// How many words a symbol has: its set, and how far the lowest degree in the set is below 1000.
+const NEAR_WORDS: usize = 5;
+
+fn greater(a: u64, b: u64) -> u64
+    ensures { λ r. ⌜ r ≡ max a b ⌝ }
+{
+    if a < b { b } else { a }
+}
+
+// The set of symbol h.
+pub fn set_of(near: &[u64], h: u16) -> SymbolSet
+    requires { ⌜ nearWords * (h + 1) ≤ length (now near) ⌝ }
+    ensures { λ r. ⌜ ((k : ℕ) → k < setRoom → member (r .words) k ≡ inNear (now (near .entry)) h k) ⌝ }
+{
+    let at = NEAR_WORDS * h as usize;
+    SymbolSet {
+        words: [near[at], near[at + 1], near[at + 2], near[at + 3]],
+    }
+}
+
+// Puts symbol k, which has this degree with symbol h, into the set of h.
+fn join(near: &mut [u64], h: u16, k: u16, degree: u16)
+    requires { ⌜ (nearWords * (h + 1) ≤ length (now near)) × (k < setRoom) × (degree ≤ 1000) ⌝ }
+    ensures { λ _. ⌜ Joined h k degree (now (near .entry)) (now (near .exit)) ⌝ }
+{
+    let at = NEAR_WORDS * h as usize;
+    let set = set_of(near, h).join(SymbolSet::of(k));
+    set.put(near, at);
+    let far = at + SymbolSet::WORDS;
+    near[far] = greater(near[far], (1000 - degree) as u64);
+}
+
+// Puts each symbol into its own set.
+fn own_sets(near: &mut [u64], symbols: u16)
+    requires { ⌜ (symbols ≤ setRoom) × (nearWords * symbols ≤ length (now near)) × (now near ≡ zeros (length (now near))) ⌝ }
+    ensures { λ _. ⌜ OwnSets symbols (now (near .exit)) ⌝ }
+{
+    for h in 0..symbols {
+        join(near, h, h, 1000);
+    }
+}
+
+// Puts the symbols of a pair into each other's sets, if its degree reaches the cut.
+fn join_pair(near: &mut [u64], pair: Pair, cut: u16)
+    requires { ⌜ (pair .lower < setRoom) × (pair .higher < setRoom) × (pair .degree ≤ 1000) ⌝ }
+    requires { ⌜ (nearWords * (pair .lower + 1) ≤ length (now near)) × (nearWords * (pair .higher + 1) ≤ length (now near)) ⌝ }
+    ensures { λ _. ⌜ PairJoined cut (pair .lower) (pair .higher) (pair .degree) (now (near .entry)) (now (near .exit)) ⌝ }
+{
+    if cut <= pair.degree {
+        join(near, pair.lower, pair.higher, pair.degree);
+        join(near, pair.higher, pair.lower, pair.degree);
+    }
+}
+
+// Gathers the sets of the symbols near each symbol, in a list that is all zeros. One look at each pair serves both its symbols.
+pub fn near_sets(file: &[u8], cut: u16, near: &mut [u64])
+    requires { ⌜ SoundFile (now file) × (0 < cut) × (cut ≤ 1000) ⌝ }
+    requires { ⌜ Fresh (tableIn (now file)) (now near) ⌝ }
+    ensures { λ _. ⌜ NearSets (tableIn (now (file .entry))) cut (now (near .exit)) ⌝ }
+{
+    let symbols = symbol_count(file);
+    own_sets(near, symbols);
+    let mut at = 10 + symbols as usize;
+    for k in 0..pair_count(file) {
+        join_pair(near, pair_from(file, at), cut);
+        at += 6;
+    }
+}
+
+// The lowest degree in the set of symbol h.
+pub fn lowest_of(near: &[u64], h: u16) -> u16
+    requires { ⌜ Kept (now near) h ⌝ }
+    ensures { λ r. ⌜ r ≡ 1000 - farthest (now (near .entry)) h ⌝ }
+{
+    1000 - near[NEAR_WORDS * h as usize + SymbolSet::WORDS] as u16
+}

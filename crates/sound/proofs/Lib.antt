@@ -1,0 +1,2 @@
+-- Laws that the calls cite.
+pub mod Checks

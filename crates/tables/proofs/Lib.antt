@@ -1,0 +1,3 @@
+-- That each promise allows one result.
+pub mod OneTable
+pub mod OneWriting

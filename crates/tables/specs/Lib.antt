@@ -1,0 +1,3 @@
+-- What the calls on tables promise.
+pub mod Tables
+pub mod Writing
