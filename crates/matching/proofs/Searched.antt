@@ -35,9 +35,9 @@ use Rattle.meaning.proofs.Lacking.{Unclashed, unclashed, lacking-none, lacking-
 use Rattle.meaning.proofs.Lengths.{rooms8, packed-words}
 use Rattle.meaning.proofs.Over.{over-front}
 use Rattle.refusal.specs.declared.Refusal.the-variants.{NoForm, Overfull}
-use Rattle.matching.specs.declared.pack.Search.{Search}
+use Rattle.packing.specs.declared.Search.{Search}
 use Rattle.facing.specs.Faced.{ClearBy}
-use Rattle.matching.specs.Pack.{Packable, PackedAll}
+use Rattle.packing.specs.Pack.{Packable, PackedAll}
 use Rattle.matching.specs.Outcomes.{emptied, kept, outcomeOf}
 use Rattle.facing.proofs.Passing.{readable}
 

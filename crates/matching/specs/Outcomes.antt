@@ -9,7 +9,7 @@ use Rattle.meaning.specs.Calls.{Answer, gives, Degrees, degrees, Matched, zeros
 use Rattle.refusal.specs.Told.{refusedBy}
 use Rattle.refusal.specs.declared.Refusal.{Refusal}
 use Rattle.refusal.specs.declared.Refusal.the-variants.{NoForm, Overfull}
-use Rattle.matching.specs.declared.pack.Search.{Search}
+use Rattle.packing.specs.declared.Search.{Search}
 use Rattle.matching.specs.declared.search.Outcome.{Outcome}
 use Rattle.matching.specs.declared.search.Outcome.the-variants.{Match, Refused}
 

@@ -1,4 +1,3 @@
-// The match of a pattern and a heading at a cut: all variables packed, and what comes of them.
+// The match of a pattern and a heading that are sound: what comes of the variables that are packed.
 pub mod clear;
-pub mod pack;
 pub mod search;

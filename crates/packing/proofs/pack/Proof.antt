@@ -12,11 +12,11 @@ use Rattle.meaning.specs.Calls.{zeros, facesIn}
 use Rattle.terms.specs.Kinds.{kindOf}
 use Rattle.terms.specs.declared.kind.Kind.{Kind}
 use Rattle.terms.specs.declared.kind.Kind.the-variants.{Variable}
-use Rattle.matching.proofs.Notes.{covers, near-of, room-kept}
-use Rattle.matching.proofs.Searching.{searched-none}
-use Rattle.matching.proofs.Meeting.{variable-kind, NewAt, PackedAlong, along-all, along-other, along-met, new-at, along-new}
-use Rattle.matching.proofs.pack.pack.Statement.{statement}
-use Rattle.matching.proofs.pack.pack.Tie as tie
+use Rattle.packing.proofs.Notes.{covers, near-of, room-kept}
+use Rattle.packing.proofs.Searching.{searched-none}
+use Rattle.packing.proofs.Meeting.{variable-kind, NewAt, PackedAlong, along-all, along-other, along-met, new-at, along-new}
+use Rattle.packing.proofs.pack.Statement.{statement}
+use Rattle.packing.proofs.pack.Tie as tie
 
 abbrev Inv-loop : tie.InvT-loop
 Inv-loop table pattern heading cut starts sizes least near own-starts₀ own-sizes₀ spans₀ sets₀ symbols search₀ i₀ i-end own-starts own-sizes spans sets search i =

@@ -1,4 +1,4 @@
-// All variables of the pattern.
+// All variables of the pattern, packed.
 ghost use mathlib.Core.Path.{_≡_};
 ghost use Prim.Native.Nat.{ℕ, _+_, _<_, _≤_};
 ghost use lib.ListN.{length};
@@ -10,7 +10,7 @@ ghost use Rattle.meaning.specs.Calls.{zeros, facesIn};
 ghost use Rattle.meaning.specs.Search.{symbolWorth};
 ghost use Rattle.near.specs.Near.{Fresh};
 ghost use Rattle.positions.specs.Facing.{NearOf};
-ghost use Rattle.matching.specs.Pack.{Packable, PackableNext, Room, PackedNext, PackedAll};
+ghost use Rattle.packing.specs.Pack.{Packable, PackableNext, Room, PackedNext, PackedAll};
 use degrees::lesser;
 use facing::gather::gather;
 use near::near_sets;

@@ -31,8 +31,8 @@ use Rattle.facing.specs.Faced.{ClearBy}
 use Rattle.positions.specs.Facing.{Within, Covers, NearOf}
 use Rattle.facing.specs.Gathering.{GatheredBy}
 use Rattle.positions.specs.Variable.{PackedTo}
-use Rattle.matching.specs.Pack.{Packable, Room, PackedNext}
-use Rattle.matching.specs.declared.pack.Search.{Search}
+use Rattle.packing.specs.Pack.{Packable, Room, PackedNext}
+use Rattle.packing.specs.declared.Search.{Search}
 use Rattle.facing.proofs.Faced.{faced-in, gathered-in}
 use Rattle.facing.proofs.Passing.{readable, few-nodes}
 use Rattle.positions.proofs.Positions.{positions-first}

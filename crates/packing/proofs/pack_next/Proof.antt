@@ -11,9 +11,9 @@ use Rattle.theory.specs.Faces.{facing}
 use Rattle.meaning.specs.Calls.{facesIn}
 use Rattle.meaning.specs.Limits.{spanWidth}
 use Rattle.meaning.proofs.Over.{over-two}
-use Rattle.matching.proofs.Notes.{OwnNotes, short, own-notes, noted-next}
-use Rattle.matching.proofs.pack.pack_next.Statement.{statement}
-use Rattle.matching.proofs.pack.pack_next.Tie as tie
+use Rattle.packing.proofs.Notes.{OwnNotes, short, own-notes, noted-next}
+use Rattle.packing.proofs.pack_next.Statement.{statement}
+use Rattle.packing.proofs.pack_next.Tie as tie
 
 gather-requires : tie.Need-gather-requires
 gather-requires c κs = search needs

@@ -30,11 +30,11 @@ use Rattle.meaning.proofs.Packing.{room}
 use Rattle.terms.specs.Kinds.{kindOf}
 use Rattle.terms.specs.declared.kind.Kind.the-variants.{Symbol, Variable, Neither}
 use Rattle.terms.proofs.Nodes.{kind-variable}
-use Rattle.matching.specs.Pack.{Packable, PackedNext, PackedAll}
-use Rattle.matching.specs.declared.pack.Search.{Search}
-use Rattle.matching.proofs.Notes.{reads, nodes-face}
-use Rattle.matching.proofs.Spans.{spansIn, span-none, span-some}
-use Rattle.matching.proofs.Searching.{Searched, searched-next, searched-all}
+use Rattle.packing.specs.Pack.{Packable, PackedNext, PackedAll}
+use Rattle.packing.specs.declared.Search.{Search}
+use Rattle.packing.proofs.Notes.{reads, nodes-face}
+use Rattle.packing.proofs.Spans.{spansIn, span-none, span-some}
+use Rattle.packing.proofs.Searching.{Searched, searched-next, searched-all}
 
 -- ---- room
 

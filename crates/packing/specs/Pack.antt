@@ -18,7 +18,7 @@ use Rattle.meaning.specs.Calls.{zeros, facesIn}
 use Rattle.meaning.specs.Search.{variableWorth, unformed, worst}
 use Rattle.meaning.specs.Over.{over}
 use Rattle.positions.specs.Facing.{Covers}
-use Rattle.matching.specs.declared.pack.Search.{Search}
+use Rattle.packing.specs.declared.Search.{Search}
 
 -- What packing starts from: the lists are read whole over the table, nothing clashes, and it is noted where the subterms stand that face the
 -- pattern's variables.

@@ -23,9 +23,9 @@ use Rattle.meaning.proofs.Over.{over-none, over-next}
 use Rattle.meaning.proofs.Packing.{one}
 use Rattle.meaning.proofs.Rated.{least-last, lowestOf-apart, highestOf-apart}
 use Rattle.meaning.proofs.Words.{words-append, sets-last, words-many}
-use Rattle.matching.specs.Pack.{PackedNext, PackedAll}
-use Rattle.matching.specs.declared.pack.Search.{Search}
-use Rattle.matching.proofs.Spans.{spansIn, spans-none, spans-next, spans-all}
+use Rattle.packing.specs.Pack.{PackedNext, PackedAll}
+use Rattle.packing.specs.declared.Search.{Search}
+use Rattle.packing.proofs.Spans.{spansIn, spans-none, spans-next, spans-all}
 
 -- The variables vs are packed: n zeros stand behind the spans, and the sets lie over the buffer `before`.
 pub record Searched (T : Table) (cut : ℕ) (fs : List Face) (vs : List ℕ) (n : ℕ) (before : List ℕ) (search : Search) (spans sets : List ℕ) : Type 0 where

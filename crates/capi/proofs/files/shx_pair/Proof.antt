@@ -4,8 +4,8 @@ use mathlib.Core.Path.{sym, ap, _∙_}
 use Rattle.tables.specs.Tables.{saidPair}
 use Rattle.capi.specs.Tables.{lowerOf, higherOf, degreeOf}
 use Rattle.capi.proofs.Told.{refused-code, refused-later, gives-code, gives-later}
-use Rattle.capi.proofs.tables.shx_pair.Statement.{statement}
-use Rattle.capi.proofs.tables.shx_pair.Tie as tie
+use Rattle.capi.proofs.files.shx_pair.Statement.{statement}
+use Rattle.capi.proofs.files.shx_pair.Tie as tie
 
 pair-of-requires : tie.Need-pair-of-requires
 pair-of-requires c κs = search needs

@@ -2,8 +2,8 @@
 use borrow.Author.Needs.{needs}
 use denote.Ref.{now}
 use Rattle.capi.proofs.Matched.{match-promised, refusal-promised}
-use Rattle.capi.proofs.matches.shx_match.Statement.{statement}
-use Rattle.capi.proofs.matches.shx_match.Tie as tie
+use Rattle.capi.proofs.search.shx_match.Statement.{statement}
+use Rattle.capi.proofs.search.shx_match.Tie as tie
 
 match-heading-requires : tie.Need-match-heading-requires
 match-heading-requires c κs = search needs

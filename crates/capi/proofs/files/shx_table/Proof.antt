@@ -4,8 +4,8 @@ use mathlib.Core.Path.{sym, ap, _∙_}
 use Rattle.meaning.specs.Calls.{aye}
 use Rattle.tables.specs.Tables.{saidTable}
 use Rattle.capi.proofs.Told.{refused-code, gives-code}
-use Rattle.capi.proofs.tables.shx_table.Statement.{statement}
-use Rattle.capi.proofs.tables.shx_table.Tie as tie
+use Rattle.capi.proofs.files.shx_table.Statement.{statement}
+use Rattle.capi.proofs.files.shx_table.Tie as tie
 
 is-table-requires : tie.Need-is-table-requires
 is-table-requires c κs = search needs
