@@ -1,5 +1,7 @@
 // The match of a pattern and a heading at a cut. It takes any bytes and any lists; its answer, and what it leaves in both buffers, are fixed
 // by its promise in specs/.
+mod memory;
+
 ghost use mathlib.Core.Path.{_≡_};
 ghost use mathlib.Core.Bool.{not};
 ghost use Prim.Native.Nat.{_≤_};
@@ -8,8 +10,8 @@ ghost use Rattle.meaning.specs.Refusals.{row, at0, first, row5, row8, SoundFile
 ghost use Rattle.meaning.specs.Calls.{inputRows};
 ghost use Rattle.sound.specs.Found.{found};
 ghost use Rattle.matches.specs.Matching.{MatchHeading, askedRows};
+use crate::memory::search_sound;
 use matching::search::Outcome;
-use matching::search::search_sound;
 use refusal::Refusal;
 use sets::SymbolSet;
 use sound::Checked;

@@ -4,9 +4,9 @@ use mathlib.Core.Path.{refl}
 use native.Mathlib.Omega.{arith}
 use denote.Ref.{now}
 use Rattle.meaning.proofs.Sound.{sound}
 use Rattle.matching.proofs.Searched.{fit, pattern-few}
-use Rattle.matching.proofs.search.search_large.Statement.{statement}
-use Rattle.matching.proofs.search.search_large.Tie as tie
+use Rattle.matches.proofs.memory.search_large.Statement.{statement}
+use Rattle.matches.proofs.memory.search_large.Tie as tie
 
 slice-aggregate-search : tie.Need-slice-aggregate-search
 slice-aggregate-search c = search needs

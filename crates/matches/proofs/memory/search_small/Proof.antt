@@ -2,8 +2,8 @@
 use borrow.Author.Needs.{needs}
 use mathlib.Core.Path.{refl}
 use native.Mathlib.Omega.{arith}
-use Rattle.matching.proofs.search.search_small.Statement.{statement}
-use Rattle.matching.proofs.search.search_small.Tie as tie
+use Rattle.matches.proofs.memory.search_small.Statement.{statement}
+use Rattle.matches.proofs.memory.search_small.Tie as tie
 
 slice-aggregate-search : tie.Need-slice-aggregate-search
 slice-aggregate-search c = search needs

@@ -3,9 +3,9 @@ use borrow.Author.Needs.{needs}
 use native.Mathlib.Omega.{arith}
 use borrow.Author.Tests.{leb-true}
 use denote.Ref.{now}
 use Rattle.matching.proofs.Searched.{fit}
-use Rattle.matching.proofs.search.search_sound.Statement.{statement}
-use Rattle.matching.proofs.search.search_sound.Tie as tie
+use Rattle.matches.proofs.memory.search_sound.Statement.{statement}
+use Rattle.matches.proofs.memory.search_sound.Tie as tie
 
 symbol-count-requires : tie.Need-symbol-count-requires
 symbol-count-requires c κs =
