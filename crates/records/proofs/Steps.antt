@@ -18,7 +18,7 @@ use Rattle.writer.specs.Said.{said}
 use Rattle.writer.specs.declared.pairs.Passed.{Passed}
 use Rattle.writer.specs.declared.Writing.{Writing}
 use Rattle.writer.specs.declared.Writing.the-variants.{Written, Refused}
-use Rattle.writer.proofs.Bytes.{pair-more}
+use Rattle.layout.proofs.Bytes.{pair-more}
 use Rattle.writer.proofs.Passing.{pass-next}
 use Rattle.writer.proofs.Rows.{given-room}
 use Rattle.writer.proofs.Writer.{passedAnswer, passedFront, answer-written, refused-later, written-later}

@@ -7,12 +7,12 @@ ghost use Rattle.meaning.specs.File.{pairsBytes};
 ghost use Rattle.meaning.specs.Over.{over};
 ghost use Rattle.writer.specs.Passing.{soundCount};
 ghost use Rattle.records.specs.Records.{listed, AllShort, dueOf, WriteRecords};
+use layout::put_pair;
 use table::read::Pair;
 use writer::Writing;
 use writer::begin;
 use writer::pairs::Passed;
 use writer::pairs::pass;
-use writer::put::put_pair;
 
 // How many pairs, from the first on, may be listed as they stand.
 fn sound_records(arities: &[u8], pairs: &[Pair]) -> usize

@@ -2,7 +2,6 @@
 --
 -- lists of numbers and of bytes
 pub mod Numbers
-pub mod Bytes
 -- what the functions' steps come to
 pub mod Passing
 pub mod Rows

@@ -13,7 +13,7 @@ use Rattle.theory.proofs.Lemmas.{or-right}
 use Rattle.meaning.specs.File.{pairBytes, pairsBytes, pairsOf, numbersOf}
 use Rattle.meaning.specs.Refusals.{unsound}
 use Rattle.table.proofs.Rising.{Short}
-use Rattle.writer.specs.Bytes.{numbersBytes}
+use Rattle.layout.specs.Bytes.{numbersBytes}
 
 -- the pair whose first number is number i
 abbrev pub threeAt : List ℕ → ℕ → Pair

@@ -1,6 +1,5 @@
 // The table writer on numbers: it writes the whole file or changes nothing.
 pub mod pairs;
-pub mod put;
 
 ghost use mathlib.Core.Path.{_≡_};
 ghost use lib.ListN.{length};
@@ -9,9 +8,9 @@ ghost use Rattle.meaning.specs.Calls.{written, laterOutput};
 ghost use Rattle.writer.specs.Passing.{countedAnswer, begunOutput};
 ghost use Rattle.writer.specs.Said.{said};
 use crate::pairs::sound_pairs;
-use crate::put::put_arities;
-use crate::put::put_header;
-use crate::put::put_numbers;
+use layout::put_arities;
+use layout::put_header;
+use layout::put_numbers;
 use refusal::Refusal;
 use table::rules::Place;
 use table::rules::allowed;

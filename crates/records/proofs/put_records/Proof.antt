@@ -55,10 +55,10 @@ use Rattle.table.specs.Read.{pairIn}
 use Rattle.table.specs.declared.read.Pair.{Pair}
 use Rattle.table.proofs.read.Pair as T
 use Rattle.table.proofs.read.Pair.Laws as T′
-use Rattle.writer.proofs.put.put_pair as put′
-use Rattle.writer.proofs.put.put_pair.Symbol as put-def
-use Rattle.writer.proofs.put.put_pair.Symbol.{name as #writer·put·put-pair}
-use Rattle.writer.proofs.put.put_pair.Met as put-thm
+use Rattle.layout.proofs.put_pair as put′
+use Rattle.layout.proofs.put_pair.Symbol as put-def
+use Rattle.layout.proofs.put_pair.Symbol.{name as #layout·put-pair}
+use Rattle.layout.proofs.put_pair.Met as put-thm
 use Rattle.records.specs.Records.{listed, none}
 use Rattle.records.proofs.Steps.{record-put}
 use Rattle.records.proofs.Again.{LentAgain, lends-again, comes-back}
@@ -166,7 +166,7 @@ module _ {M : Type 1} (𝓤 : URA M) (H : Heap 𝓤) (A : Atoms 𝓤) (W : Given
       owned ! u16 (Is u16) (uint-makes 𝓤 H A W w16) (y .lower) _ (refl, gl) $ fjoin ! $
       owned ! usize (Is usize) (uint-makes 𝓤 H A W w64) i _ (refl, gi) $ fjoin ! $ move ! (1 ∷ 0 ∷ []) $ fjoin ! $ done !
 
-  module _ (𝓣 : Tables 𝓤 H) (fm : FmC 𝓤 H (W .laws) (𝓣 .C)) (known : Triple 𝓤 (𝓣 .C #writer·put·put-pair) (Put 𝓤 H A mem′ run)) (gn : Room R n) (gm : Room u8 m) (gp : place < 2 ^ 64) (gc : count < 2 ^ 64) (asked : Asked ys count zs₀ place) (l₀ l₁ l₂ l₃ l₄ l₅ l₆ l₇ l₈ l₉ l₁₀ l₁₁ l₁₂ l₁₃ l₁₄ : ℕ) where
+  module _ (𝓣 : Tables 𝓤 H) (fm : FmC 𝓤 H (W .laws) (𝓣 .C)) (known : Triple 𝓤 (𝓣 .C #layout·put-pair) (Put 𝓤 H A mem′ run)) (gn : Room R n) (gm : Room u8 m) (gp : place < 2 ^ 64) (gc : count < 2 ^ 64) (asked : Asked ys count zs₀ place) (l₀ l₁ l₂ l₃ l₄ l₅ l₆ l₇ l₈ l₉ l₁₀ l₁₁ l₁₂ l₁₃ l₁₄ : ℕ) where
     abbrev C : Calls 𝓤 H
     C = 𝓣 .C
 
@@ -297,7 +297,7 @@ module _ {M : Type 1} (𝓤 : URA M) (H : Heap 𝓤) (A : Atoms 𝓤) (W : Given
     begins : ent 𝓤 (⋆ 𝓤 H A (At (0, zs₀))) (Wp 𝓤 H C Λ En (loop mir′.turn-1) Left)
     begins = loops 𝓤 H A W 𝓣 En mir′.turn-1 Left At Kept left turns (0, zs₀) (omega arith, refl, over-none zs₀ place)
 
-  walk : (𝓣 : Tables 𝓤 H) → FmC 𝓤 H (W .laws) (𝓣 .C) → Triple 𝓤 (𝓣 .C #writer·put·put-pair) (Put 𝓤 H A mem′ run) → Room R n → Room u8 m → place < 2 ^ 64 → count < 2 ^ 64 → Asked ys count zs₀ place
+  walk : (𝓣 : Tables 𝓤 H) → FmC 𝓤 H (W .laws) (𝓣 .C) → Triple 𝓤 (𝓣 .C #layout·put-pair) (Put 𝓤 H A mem′ run) → Room R n → Room u8 m → place < 2 ^ 64 → count < 2 ^ 64 → Asked ys count zs₀ place
       → ent 𝓤 (onEntry 𝓤 H A f.signature (κ₁, (κ, tt)) (q₁, (q, tt)) args at) (WpFn 𝓤 H (𝓣 .C) (𝓣 .Λ) code.function (s m ∷ vint w64 place ∷ sliceVal (b, o) n ∷ vint w64 count ∷ []) Post)
   walk 𝓣 fm known gn gm gp gc asked =
       qed W ((‵ (flft κ₁ q₁) ⊛ (‵ (flft κ q) ⊛ ‵ ftrue)) ∷ ‵ (owns (MutSlice (named 0) κ₁ u8 ∷ usize ∷ ShrSlice (named 1) κ R ∷ usize ∷ []) args at) ∷ []) ∵ enter ! (𝓣 .C) (𝓣 .Λ) code.function (s m ∷ vint w64 place ∷ sliceVal (b, o) n ∷ vint w64 count ∷ []) _ $
@@ -310,7 +310,7 @@ module _ {M : Type 1} (𝓤 : URA M) (H : Heap 𝓤) (A : Atoms 𝓤) (W : Given
       by ! (begins 𝓣 fm known gn gm gp gc asked l₀ l₁ l₂ l₃ l₄ l₅ l₆ l₇ l₈ l₉ l₁₀ l₁₁ l₁₂ l₁₃ l₁₄))
 
 module _ {M : Type 1} (𝓤 : URA M) (H : Heap 𝓤) (A : Atoms 𝓤) (W : Given 𝓤 H A) (mem′ : Memory → SProp 𝓤) (run : Routine → Fun 𝓤) where
-  walks : (𝓣 : Tables 𝓤 H) → Triple 𝓤 (𝓣 .C #writer·put·put-pair) (Put 𝓤 H A mem′ run) → Walks 𝓤 H A f.ended stayed (WpFn 𝓤 H (𝓣 .C) (𝓣 .Λ) code.function) (f.clauses 𝓤 H A mem′ run)
+  walks : (𝓣 : Tables 𝓤 H) → Triple 𝓤 (𝓣 .C #layout·put-pair) (Put 𝓤 H A mem′ run) → Walks 𝓤 H A f.ended stayed (WpFn 𝓤 H (𝓣 .C) (𝓣 .Λ) code.function) (f.clauses 𝓤 H A mem′ run)
   walks 𝓣 known =
       walked 𝓤 H A f.ended stayed (f.clauses 𝓤 H A mem′ run) (WpFn 𝓤 H (𝓣 .C) (𝓣 .Λ) code.function) (λ κs. (slice-vals, (uint-vals w64, (slice-vals, (uint-vals w64, tt)))))
       (λ κs. (mut-slice-tells (named 0) (κs .0) u8, (uint-tells w64, (shr-slice-tells (named 1) (κs .1 .0) R, (uint-tells w64, tt)))))
@@ -319,7 +319,7 @@ module _ {M : Type 1} (𝓤 : URA M) (H : Heap 𝓤) (A : Atoms 𝓤) (W : Given
       𝓣 (fmOf 𝓤 H (W .laws) 𝓣) known (are .1 .1 .0 .0 .1) (are .0 .0 .1) (are .1 .0 .1) (are .1 .1 .1 .0 .1)))
 
 meets : {M : Type 1} (𝓤 : URA M) (H : Heap 𝓤) (A : Atoms 𝓤) (W : Given 𝓤 H A) (mem′ : Memory → SProp 𝓤) (run : Routine → Fun 𝓤) (𝓣 : Tables 𝓤 H)
-    → Triple 𝓤 (𝓣 .C #writer·put·put-pair) (Put 𝓤 H A mem′ run) → Meets 𝓤 H A f.signature (WpFn 𝓤 H (𝓣 .C) (𝓣 .Λ) code.function) (f.spec 𝓤 H A mem′ run)
+    → Triple 𝓤 (𝓣 .C #layout·put-pair) (Put 𝓤 H A mem′ run) → Meets 𝓤 H A f.signature (WpFn 𝓤 H (𝓣 .C) (𝓣 .Λ) code.function) (f.spec 𝓤 H A mem′ run)
 meets 𝓤 H A W mem′ run 𝓣 known =
     walk-meets 𝓤 H A f.ended stayed W
     (goes-slice 𝓤 H A W 2 0 tt (plain (λ _. u8)), (goes-none 𝓤 H A W 2 (λ _. usize) stays-yes (λ κs x f. refl), (goes-none-slice 𝓤 H A W 2 (1 ∷ []) tt (plain (λ _. R)) stays-yes, (goes-none 𝓤 H A W 2 (λ _. usize) stays-yes (λ κs x f. refl), tt))))
@@ -331,4 +331,4 @@ put-records-spec 𝓤 H 𝓜 𝓖 𝓡 =
     entered 𝓤 H (tripleOf 𝓤 H (𝓖 .A) f.signature (f.spec 𝓤 H (𝓖 .A) (𝓜 .mem) (𝓡 .run)))
     (tables 𝓤 H 𝓜 𝓡 code.env .C) (tables 𝓤 H 𝓜 𝓡 code.env .Λ) #records·put-records code.function (code.unfolded 𝓤 H 𝓜 𝓡)
     (meets 𝓤 H (𝓖 .A) (givenOf 𝓤 H 𝓜 𝓖) (𝓜 .mem) (𝓡 .run) (tablesOf 𝓤 H 𝓜 (tables 𝓤 H 𝓜 𝓡 code.env))
-    (cited 𝓤 H (Put 𝓤 H (𝓖 .A) (𝓜 .mem) (𝓡 .run)) 𝓜 𝓡 code.env #writer·put·put-pair put-def.routine code.calls-writer·put·put-pair (put-thm.met 𝓤 H 𝓜 𝓖 𝓡)))
+    (cited 𝓤 H (Put 𝓤 H (𝓖 .A) (𝓜 .mem) (𝓡 .run)) 𝓜 𝓡 code.env #layout·put-pair put-def.routine code.calls-layout·put-pair (put-thm.met 𝓤 H 𝓜 𝓖 𝓡)))

@@ -7,11 +7,11 @@ use lib.ListN.{length, getD, take}
 use lib.Seq.{take-all}
 use Rattle.meaning.specs.File.{bytesOf}
 use Rattle.meaning.specs.Over.{over}
-use Rattle.writer.specs.Bytes.{numbersBytes}
+use Rattle.layout.specs.Bytes.{numbersBytes}
 use Rattle.meaning.proofs.Over.{over-none}
-use Rattle.writer.proofs.Bytes.{number-more}
-use Rattle.writer.proofs.put.put_numbers.Statement.{statement}
-use Rattle.writer.proofs.put.put_numbers.Tie as tie
+use Rattle.layout.proofs.Bytes.{number-more}
+use Rattle.layout.proofs.put_numbers.Statement.{statement}
+use Rattle.layout.proofs.put_numbers.Tie as tie
 
 abbrev Inv-loop : tie.InvT-loop
 Inv-loop output₀ at numbers n i₀ output i =

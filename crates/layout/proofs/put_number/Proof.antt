@@ -4,8 +4,8 @@ use Prim.Native.Nat.{_%_, _/_}
 use native.Mathlib.Omega.{arith}
 use lib.ListN.{length-set}
 use Rattle.meaning.proofs.Over.{over-two}
-use Rattle.writer.proofs.put.put_number.Statement.{statement}
-use Rattle.writer.proofs.put.put_number.Tie as tie
+use Rattle.layout.proofs.put_number.Statement.{statement}
+use Rattle.layout.proofs.put_number.Tie as tie
 
 cast-output : tie.Need-cast-output
 cast-output c = search needs

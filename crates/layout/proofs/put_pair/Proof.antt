@@ -5,8 +5,8 @@ use mathlib.Core.List.{_++_}
 use native.Mathlib.Omega.{arith}
 use Rattle.meaning.specs.File.{bytesOf}
 use Rattle.meaning.proofs.Over.{over-next}
-use Rattle.writer.proofs.put.put_pair.Statement.{statement}
-use Rattle.writer.proofs.put.put_pair.Tie as tie
+use Rattle.layout.proofs.put_pair.Statement.{statement}
+use Rattle.layout.proofs.put_pair.Tie as tie
 
 put-number-requires : tie.Need-put-number-requires
 put-number-requires c κs = search needs

@@ -1,4 +1,4 @@
-// Bytes put into the output, each part of the file over what was there.
+// The bytes of a table file, laid over what was there part by part.
 ghost use mathlib.Core.Path.{_≡_};
 ghost use Prim.Native.Nat.{_+_, _*_, _≤_};
 ghost use lib.ListN.{length};
@@ -6,7 +6,7 @@ ghost use Rattle.theory.specs.Pairs.{pair};
 ghost use Rattle.meaning.specs.Limits.{mostSymbols, mostPairs};
 ghost use Rattle.meaning.specs.File.{bytesOf, header, pairBytes};
 ghost use Rattle.meaning.specs.Over.{over};
-ghost use Rattle.writer.specs.Bytes.{numbersBytes};
+ghost use Rattle.layout.specs.Bytes.{numbersBytes};
 
 // A number's two bytes, the low one first.
 pub fn put_number(output: &mut [u8], at: usize, n: u16)

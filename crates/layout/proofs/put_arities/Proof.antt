@@ -7,8 +7,8 @@ use lib.ListN.{length, getD, set, take}
 use lib.Seq.{take-all}
 use Rattle.meaning.specs.Over.{over}
 use Rattle.meaning.proofs.Over.{over-none, store-more}
-use Rattle.writer.proofs.put.put_arities.Statement.{statement}
-use Rattle.writer.proofs.put.put_arities.Tie as tie
+use Rattle.layout.proofs.put_arities.Statement.{statement}
+use Rattle.layout.proofs.put_arities.Tie as tie
 
 abbrev Inv-loop : tie.InvT-loop
 Inv-loop output₀ arities n i₀ output i =

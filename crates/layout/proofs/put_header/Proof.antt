@@ -5,8 +5,8 @@ use mathlib.Core.List.{_++_}
 use native.Mathlib.Omega.{arith}
 use Rattle.meaning.specs.File.{pairsAt, total, bytesOf}
 use Rattle.meaning.proofs.Over.{over-next}
-use Rattle.writer.proofs.put.put_header.Statement.{statement}
-use Rattle.writer.proofs.put.put_header.Tie as tie
+use Rattle.layout.proofs.put_header.Statement.{statement}
+use Rattle.layout.proofs.put_header.Tie as tie
 
 add-pairs-at : tie.Need-add-pairs-at
 add-pairs-at c = search needs

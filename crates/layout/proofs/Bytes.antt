@@ -11,7 +11,7 @@ use Rattle.meaning.specs.File.{bytesOf, pairBytes, pairsBytes}
 use Rattle.meaning.specs.Over.{over}
 use Rattle.meaning.proofs.Over.{over-then, one-more}
 use Rattle.meaning.proofs.Writing.{length-pairsBytes}
-use Rattle.writer.specs.Bytes.{numbersBytes}
+use Rattle.layout.specs.Bytes.{numbersBytes}
 
 pub length-numbersBytes : (ns : List ℕ) → length (numbersBytes ns) ≡ 2 * length ns
 length-numbersBytes [] = refl
