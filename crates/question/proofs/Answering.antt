@@ -1,50 +1,33 @@
 -- The match is asked what the question asks, but for lists that are cut and memory that is no zeros; so it says what is written for the question.
 use mathlib.Core.Path.{_≡_, refl, sym, ap, ap₂, _∙_}
-use mathlib.Core.List.{List, [], _∷_, _++_}
+use mathlib.Core.List.{List, _++_}
 use mathlib.Core.Option.{none, some as just}
-use Prim.Native.Nat.{ℕ, _+_, _-_, _*_, _≤_, _<_, min}
-use native.Mathlib.Decide.{decLt}
+use Prim.Native.Nat.{ℕ, _+_, _-_, _*_, _≤_, min}
 use native.Mathlib.Omega.{arith}
-use lib.Dec.{ltb}
 use lib.ListN.{length, take, drop, length-drop}
 use lib.Seq.{take-at, take-all}
-use borrow.Author.Tests.{lt-ltb, le-ltb}
 use Rattle.meaning.specs.Limits.{setWords, variableCount, spanWidth}
 use Rattle.meaning.specs.File.{number}
 use Rattle.meaning.specs.Refusals.{Refusal, refusal, numberOf, placeOf, row, row12}
 use Rattle.meaning.specs.Calls.{Answer, refused, refusedAs, Degrees, zeros}
-use Rattle.meaning.specs.Program.{numbersFrom, cutIn, patternIn, headingIn, tableBytes, refusedText}
+use Rattle.meaning.specs.Program.{numbersFrom, cutIn, patternIn, headingIn, tableBytes}
 use Rattle.matching.specs.Outcomes.{saidMatch}
 use Rattle.matching.specs.declared.search.Outcome.{Outcome}
 use Rattle.matches.specs.Matching.{MatchHeading}
-use Rattle.question.specs.declared.lines.Reply.{Reply}
-use Rattle.question.specs.declared.lines.Reply.the-variants.{Refused}
-use Rattle.question.specs.Lines.{textIn, matchedBy, replied}
-use Rattle.question.specs.Answers.{roomFor, AnsweredBy}
-use Rattle.question.proofs.Shapes.{nodes-inside}
-use Rattle.question.proofs.Copying.{length-numbers, min-numbers}
-use Rattle.question.proofs.Spans.{match-spanned, zeros-spanned}
+use Rattle.lines.specs.declared.line.Reply.{Reply}
+use Rattle.lines.specs.declared.line.Reply.the-variants.{Refused}
+use Rattle.lines.specs.Lines.{replied}
+use Rattle.lines.proofs.Spans.{zeros-spanned}
+use Rattle.shape.specs.Rooms.{roomFor}
+use Rattle.shape.proofs.Shapes.{nodes-inside}
+use Rattle.shape.proofs.Copying.{length-numbers, min-numbers}
+use Rattle.shape.proofs.Rooms.{room-some}
+use Rattle.question.specs.Answers.{AnsweredBy}
+use Rattle.question.proofs.Spans.{match-spanned}
 use Rattle.question.proofs.Asked.{asked-text, output-asked, output-misshapen}
 
 abbrev blank : List ℕ
 blank = zeros (spanWidth * variableCount)
-
--- LAW: the room of a question that has a header, and of one that has none
-pub room-some : (input : List ℕ) → 14 ≤ length input → roomFor input ≡ setWords * min (number input 4) 1025
-unfolding roomFor
-room-some input l = rw (le-ltb (length input) 14 l)
-
-pub room-none : (input : List ℕ) → length input < 14 → roomFor input ≡ 0
-unfolding roomFor
-room-none input l = rw (lt-ltb (length input) 14 l)
-
--- LAW: 4,100 words are enough
-pub room-most : (input : List ℕ) → roomFor input ≤ 4100
-room-most input = go (decLt (length input) 14)
-  where
-    go : Dec (length input < 14) → roomFor input ≤ 4100
-    go (yes l) = omega (arith, room-none input l)
-    go (no l) = omega (arith, room-some input (omega arith))
 
 -- LAW: what is copied to the front of 1,025 nodes is the list, cut
 pub copied-list : (input : List ℕ) (at : ℕ) (out out′ : List ℕ) (count n k : ℕ) → count ≡ n → length out ≡ 1025 → (k ≡ min count (length out)) × (out′ ≡ numbersFrom input at k ++ drop k out)

@@ -24,11 +24,12 @@ use Rattle.meaning.specs.Buffers.{firstPosition, positionCount, bit, holds}
 use Rattle.meaning.specs.Program.{decimal, line, variableLines, refusedText, cutIn, patternIn, headingIn, tableBytes, asked, textUnless, output}
 use Rattle.meaning.proofs.Bits.{getD-zeros}
 use Rattle.meaning.proofs.Compose.{by-input, by-search, by-answer}
-use Rattle.question.specs.declared.lines.Reply.{Reply}
-use Rattle.question.specs.declared.lines.Reply.the-variants.{Match, Refused}
-use Rattle.question.specs.Lines.{textIn, matchedBy, replyLine, variableLine, symbolsLine, upward}
-use Rattle.question.proofs.Rest.{some-lines, no-lines}
-use Rattle.question.proofs.Copying.{length-numbers, cut-reading, long-reading}
+use Rattle.lines.specs.declared.line.Reply.{Reply}
+use Rattle.lines.specs.declared.line.Reply.the-variants.{Match, Refused}
+use Rattle.lines.specs.Lines.{textIn, matchedBy, replyLine, variableLine, symbolsLine, upward}
+use Rattle.lines.proofs.Rest.{some-lines, no-lines}
+use Rattle.shape.proofs.Copying.{length-numbers}
+use Rattle.question.proofs.Cutting.{cut-reading, long-reading}
 
 -- ---- refused by a list that is too long
 

@@ -14,16 +14,11 @@ use Rattle.meaning.specs.Limits.{setWords, variableCount, spanWidth}
 use Rattle.meaning.specs.Refusals.{Refusal, refusal, first}
 use Rattle.meaning.specs.Packing.{order, countOf, startIn, among, packedCount, packedSpans}
 use Rattle.meaning.specs.Calls.{zeros, later, facesIn, matchRows, laterSpans, laterSets}
-use Rattle.meaning.specs.Buffers.{firstPosition, positionCount}
-use Rattle.meaning.proofs.Bits.{getD-zeros}
 use Rattle.meaning.proofs.Packing.{span-at}
 use Rattle.meaning.proofs.Loop.{span-within}
 use Rattle.meaning.proofs.Lengths.{rooms, lengths}
-use Rattle.question.specs.Lines.{Spanned}
-
--- where a variable's positions end
-abbrev ending : List ℕ → ℕ → ℕ
-ending spans v = firstPosition spans v + positionCount spans v
+use Rattle.lines.specs.Lines.{Spanned}
+use Rattle.lines.proofs.Spans.{ending, zero-ending}
 
 packed-ending : (fs : List Face) (rest : List ℕ) (v : ℕ) → v < variableCount → ending (packedSpans fs ++ rest) v ≤ packedCount fs
 unfolding packedCount
@@ -34,13 +29,6 @@ packed-ending fs rest v l =
     go : (b : Bool) → among v (order fs) ≡ b → getD (cond b (startIn (countOf fs) v (order fs) ∷ countOf fs v ∷ []) (0 ∷ 0 ∷ [])) 0 0 + getD (cond b (startIn (countOf fs) v (order fs) ∷ countOf fs v ∷ []) (0 ∷ 0 ∷ [])) 1 0 ≤ packedCount fs
     go true e = span-within (countOf fs) v (order fs) e
     go false e = omega arith
-
-zero-ending : (n v : ℕ) → ending (zeros n) v ≡ 0
-zero-ending n v = omega (arith, getD-zeros n (spanWidth * v), getD-zeros n (spanWidth * v + 1))
-
--- LAW: zeros span nothing
-pub zeros-spanned : (n : ℕ) (sets : List ℕ) → spanWidth * variableCount ≤ n → Spanned (zeros n) sets
-zeros-spanned n sets l = record { spans-there = omega (arith, length-replicate {A = ℕ} n 0); sets-there = λ v m. omega (arith, zero-ending n v) }
 
 module _ (table pattern heading : List ℕ) (cut n : ℕ) (sets : List ℕ) where
   inside : (v : ℕ) → v < variableCount → setWords * ending (laterSpans table pattern heading cut (zeros n) sets) v ≤ length sets

@@ -5,32 +5,18 @@ ghost use lib.ListN.{length};
 ghost use Rattle.meaning.specs.Limits.{variableCount, spanWidth};
 ghost use Rattle.meaning.specs.Calls.{zeros};
 ghost use Rattle.matching.specs.Outcomes.{saidMatch};
-ghost use Rattle.question.specs.Shapes.{HeaderBy};
-ghost use Rattle.question.specs.Lines.{replied};
-ghost use Rattle.question.specs.Answers.{roomFor, AnsweredBy};
-use crate::lines::Reply;
-use crate::nodes::copy_nodes;
-use crate::nodes::fewer;
-use crate::shape::Header;
-use crate::shape::Shape;
-use crate::shape::take_apart;
+ghost use Rattle.lines.specs.Lines.{replied};
+ghost use Rattle.shape.specs.Shapes.{HeaderBy};
+ghost use Rattle.shape.specs.Rooms.{roomFor};
+ghost use Rattle.question.specs.Answers.{AnsweredBy};
 use matches::match_heading;
+use lines::line::Reply;
 use matching::search::Outcome;
-use sets::SymbolSet;
-use table::number::number_at;
-
-// One node more than a list may have, so that a list that is too long still is when it is cut.
-const LONGEST: usize = 1025;
-
-// How many words the sets of a question's answer need.
-pub fn room_for(input: &[u8]) -> usize
-    ensures { λ r. ⌜ r ≡ roomFor (now (input .entry)) ⌝ }
-{
-    if input.len() < 14 {
-        return 0;
-    }
-    SymbolSet::WORDS * fewer(number_at(input, 4) as usize, LONGEST)
-}
+use shape::nodes::copy_nodes;
+use shape::parts::Header;
+use shape::parts::Shape;
+use shape::parts::take_apart;
+use shape::room::LONGEST;
 
 fn reply_of(outcome: Outcome) -> Reply
     ensures { λ r. ⌜ replied r ≡ saidMatch outcome ⌝ }

@@ -1,7 +1,2 @@
-// The question file taken apart, and the answer as lines of text.
+// The answer to a question file.
 pub mod answer;
-pub mod filling;
-pub mod lines;
-pub mod nodes;
-pub mod shape;
-pub mod text;

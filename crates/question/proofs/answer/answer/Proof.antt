@@ -2,7 +2,7 @@
 use borrow.Author.Needs.{needs}
 use mathlib.Core.Path.{subst}
 use denote.Ref.{now}
-use Rattle.question.specs.Shapes.{ShapedBy}
+use Rattle.shape.specs.Shapes.{ShapedBy}
 use Rattle.question.proofs.Answering.{answered-misshapen}
 use Rattle.question.proofs.answer.answer.Statement.{statement}
 use Rattle.question.proofs.answer.answer.Tie as tie

@@ -8,7 +8,7 @@ use Rattle.meaning.specs.File.{number}
 use Rattle.meaning.specs.Program.{numbersFrom, patternIn, headingIn, tableBytes}
 use lib.ListN.{length, take, drop}
 use lib.Seq.{length-take-le}
-use Rattle.question.proofs.Shapes.{nodes-inside}
+use Rattle.shape.proofs.Shapes.{nodes-inside}
 use Rattle.question.proofs.Answering.{copied-list, rest-all, answered}
 use Rattle.question.proofs.answer.answer_asked.Statement.{statement}
 use Rattle.question.proofs.answer.answer_asked.Tie as tie

@@ -1,0 +1,3 @@
+// The answer as lines of text.
+pub mod filling;
+pub mod line;

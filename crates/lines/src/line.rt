@@ -1,0 +1,189 @@
+// The answer's text, line by line.
+ghost use mathlib.Core.Path.{_≡_};
+ghost use mathlib.Core.List.{[], _∷_};
+ghost use mathlib.Core.Bool.{cond};
+ghost use Prim.Native.Nat.{_+_, _*_, _≤_, _<_};
+ghost use lib.Dec.{eqb};
+ghost use lib.ListN.{length};
+ghost use Rattle.meaning.specs.Limits.{setWords, setRoom, variableCount, spanWidth};
+ghost use Rattle.meaning.specs.Buffers.{firstPosition, positionCount, holds};
+ghost use Rattle.meaning.specs.Program.{line};
+ghost use Rattle.text.specs.Texts.{PutBy, numeral};
+ghost use Rattle.lines.specs.Lines.{lineRoom, replyLine, variableLine, symbolsLine, seekFrom, afterReply, afterPosition, OnLine, Spanned, LineBy};
+use sets::SymbolSet;
+use text::put_byte;
+use text::put_number;
+use text::put_text;
+
+pub enum Reply {
+    // the lowest and the highest degree
+    Match(u16, u16),
+    // number and place
+    Refused(u16, u16),
+}
+
+// Which line comes next.
+pub enum Cursor {
+    First,
+    // a variable's own line
+    Variable(u16),
+    // the line of one of its positions, counted from 0
+    Position(u16, u16),
+    End,
+}
+
+pub enum Line {
+    // where the line ends, and the cursor after it
+    Text(usize, Cursor),
+    Done,
+}
+
+fn first_position(spans: &[u16], v: u16) -> u16
+    requires { ⌜ (spanWidth * variableCount ≤ length (now spans)) × (v < variableCount) ⌝ }
+    ensures { λ r. ⌜ r ≡ firstPosition (now (spans .entry)) v ⌝ }
+{
+    spans[2 * v as usize]
+}
+
+fn position_count(spans: &[u16], v: u16) -> u16
+    requires { ⌜ (spanWidth * variableCount ≤ length (now spans)) × (v < variableCount) ⌝ }
+    ensures { λ r. ⌜ r ≡ positionCount (now (spans .entry)) v ⌝ }
+{
+    spans[2 * v as usize + 1]
+}
+
+// ---- from line to line
+
+// The own line of the next variable that has positions, from `first` on.
+fn seek(spans: &[u16], first: u16) -> Cursor
+    requires { ⌜ (spanWidth * variableCount ≤ length (now spans)) × (first ≤ variableCount) ⌝ }
+    ensures { λ r. ⌜ r ≡ seekFrom (now (spans .entry)) first ⌝ }
+{
+    for v in first..32 {
+        if position_count(spans, v) > 0 {
+            return Cursor::Variable(v);
+        }
+    }
+    Cursor::End
+}
+
+fn after_reply(reply: Reply, spans: &[u16]) -> Cursor
+    requires { ⌜ spanWidth * variableCount ≤ length (now spans) ⌝ }
+    ensures { λ r. ⌜ r ≡ afterReply reply (now (spans .entry)) ⌝ }
+{
+    match reply {
+        Reply::Match(_, _) => seek(spans, 0),
+        Reply::Refused(_, _) => Cursor::End,
+    }
+}
+
+fn after_position(spans: &[u16], v: u16, k: u16) -> Cursor
+    requires { ⌜ (spanWidth * variableCount ≤ length (now spans)) × (v < variableCount) × (k < positionCount (now spans) v) ⌝ }
+    ensures { λ r. ⌜ r ≡ afterPosition (now (spans .entry)) v k ⌝ }
+{
+    if k + 1 < position_count(spans, v) {
+        Cursor::Position(v, k + 1)
+    } else {
+        seek(spans, v + 1)
+    }
+}
+
+// ---- one line
+
+// A word and two numbers.
+fn put_fields(out: &mut [u8], at: usize, word: &[u8], first: u16, second: u16) -> usize
+    requires { ⌜ at + length (now word) + 13 ≤ length (now out) ⌝ }
+    ensures { λ r. ⌜ PutBy (now (out .entry)) at (line (now (word .entry) ∷ numeral first ∷ numeral second ∷ [])) r (now (out .exit)) ⌝ }
+{
+    let word_end = put_text(out, at, word);
+    let first_at = put_byte(out, word_end, 32);
+    let first_end = put_number(out, first_at, first);
+    let second_at = put_byte(out, first_end, 32);
+    let second_end = put_number(out, second_at, second);
+    put_byte(out, second_end, 10)
+}
+
+fn put_reply(out: &mut [u8], at: usize, reply: Reply) -> usize
+    requires { ⌜ at + lineRoom ≤ length (now out) ⌝ }
+    ensures { λ r. ⌜ PutBy (now (out .entry)) at (replyLine reply) r (now (out .exit)) ⌝ }
+{
+    match reply {
+        Reply::Match(lowest, highest) => put_fields(out, at, b"match", lowest, highest),
+        Reply::Refused(number, place) => put_fields(out, at, b"refused", number, place),
+    }
+}
+
+fn put_variable(out: &mut [u8], at: usize, v: u16, count: u16) -> usize
+    requires { ⌜ at + lineRoom ≤ length (now out) ⌝ }
+    ensures { λ r. ⌜ PutBy (now (out .entry)) at (variableLine v count) r (now (out .exit)) ⌝ }
+{
+    let v_at = put_byte(out, at, 120);
+    let v_end = put_number(out, v_at, v);
+    let count_at = put_byte(out, v_end, 32);
+    let count_end = put_number(out, count_at, count);
+    put_byte(out, count_end, 10)
+}
+
+// Whether symbol k is in the set at a position.
+fn in_set(sets: &[u64], position: usize, k: u16) -> bool
+    requires { ⌜ (setWords * (position + 1) ≤ length (now sets)) × (k < setRoom) ⌝ }
+    ensures { λ r. ⌜ r ≡ holds (now (sets .entry)) position k ⌝ }
+{
+    let word = sets[SymbolSet::WORDS * position + (k / SymbolSet::BITS) as usize];
+    (word >> (k % SymbolSet::BITS)) % 2 == 1
+}
+
+// A number, with a space before it unless the line starts here.
+fn put_field(out: &mut [u8], start: usize, at: usize, n: u16) -> usize
+    requires { ⌜ at + 6 ≤ length (now out) ⌝ }
+    ensures { λ r. ⌜ PutBy (now (out .entry)) at (cond (eqb at start) (numeral n) (32 ∷ numeral n)) r (now (out .exit)) × (r ≤ at + 6) ⌝ }
+{
+    if at == start {
+        return put_number(out, at, n);
+    }
+    let n_at = put_byte(out, at, 32);
+    put_number(out, n_at, n)
+}
+
+// The symbols at a position, rising.
+fn put_symbols(out: &mut [u8], start: usize, sets: &[u64], position: usize) -> usize
+    requires { ⌜ (start + lineRoom ≤ length (now out)) × (setWords * (position + 1) ≤ length (now sets)) ⌝ }
+    ensures { λ r. ⌜ PutBy (now (out .entry)) start (symbolsLine (now (sets .entry)) position) r (now (out .exit)) ⌝ }
+{
+    let mut at = start;
+    for k in 0..256 {
+        if in_set(sets, position, k) {
+            at = put_field(out, start, at, k);
+        }
+    }
+    put_byte(out, at, 10)
+}
+
+// Puts the line at the cursor from `at` on, and says where it ends and which comes next.
+pub fn next_line(
+    reply: Reply,
+    spans: &[u16],
+    sets: &[u64],
+    cursor: Cursor,
+    out: &mut [u8],
+    at: usize,
+) -> Line
+    requires { ⌜ Spanned (now spans) (now sets) × OnLine (now spans) cursor × (at + lineRoom ≤ length (now out)) ⌝ }
+    ensures { λ r. ⌜ LineBy reply (now (spans .entry)) (now (sets .entry)) cursor (now (out .entry)) at r (now (out .exit)) ⌝ }
+{
+    match cursor {
+        Cursor::First => Line::Text(put_reply(out, at, reply), after_reply(reply, spans)),
+        Cursor::Variable(v) => Line::Text(
+            put_variable(out, at, v, position_count(spans, v)),
+            Cursor::Position(v, 0),
+        ),
+        Cursor::Position(v, k) => {
+            let position = first_position(spans, v) as usize + k as usize;
+            Line::Text(
+                put_symbols(out, at, sets, position),
+                after_position(spans, v, k),
+            )
+        }
+        Cursor::End => Line::Done,
+    }
+}

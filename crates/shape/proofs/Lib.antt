@@ -1,0 +1,4 @@
+-- Laws that the proofs of functions cite, here and in the crates above.
+pub mod Shapes
+pub mod Copying
+pub mod Rooms

@@ -1,0 +1,3 @@
+-- Names that contracts use. What is asked stands in the crate meaning.
+pub mod Shapes
+pub mod Rooms

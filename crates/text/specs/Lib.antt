@@ -1,0 +1,2 @@
+-- Names that contracts use.
+pub mod Texts
