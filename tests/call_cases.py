@@ -1,18 +1,29 @@
 """Cases for the program crates/call_cases: how one is written, and what is to be answered.
 
-A case is eight numbers (which call; how many bytes the table has; how many nodes each of three lists has; three numbers that the call
-takes besides), then the table and the lists. Its answer is a line that begins with the case's number.
+A case is nine numbers (which call; how many bytes there are, as two numbers to be added; how many numbers each of three lists has; three
+numbers that the call takes besides), then the bytes (the table, or the arities to be written) and the lists (nodes, or the pairs to be
+written). Its answer is a line that begins with the case's number.
 """
 import sys
 
 import reference
 from reference import Refused, two_bytes
 
-# as in the program: what fills a match's buffers before the call, their lengths, and room for a list
-GUARD, SPANS, SETS, LONGEST = 9999, 72, 4112, 1100
+# as in the program: what fills a match's buffers before the call, their lengths, the length of a write's output, and room for bytes and a list
+GUARD, SPANS, SETS, OUTPUT, BYTES, LONGEST = 9999, 72, 4112, 72, 65544, 24579
 
-SYMBOL_DEGREE, DEGREE, SUBTERM, NEARER, MATCH = 1, 2, 3, 4, 5
-ANSWERED = (SYMBOL_DEGREE, DEGREE, SUBTERM, NEARER, MATCH)   # what the program answers; other cases are left out
+SYMBOL_DEGREE, DEGREE, SUBTERM, NEARER, MATCH, IS_TABLE, ARITY, PAIR, WRITE = range(1, 10)
+
+
+# ---- what is asked
+
+def two_numbers(n):
+    """A number that may be above 65,535, as two to be added."""
+    return [min(n, 65535), max(n - 65535, 0)]
+
+
+def words(numbers):
+    return b''.join(map(two_bytes, numbers))
 
 
 # ---- answers as text
@@ -21,9 +32,10 @@ def refused(why):
     return 'refused %d %d' % (why.number, why.place)
 
 
-def degree_text(ask, *asked):
+def answered(text, ask):
+    """The text with what is answered filled in, or the refusal."""
     try:
-        return 'degree %d' % ask(*asked)
+        return text % ask()
     except Refused as why:
         return refused(why)
 
@@ -57,33 +69,60 @@ def match_text(table, pattern, heading, cut, spans_lent, sets_lent):
     return said + ' spans' + runs(spans) + ' sets' + runs(sets)
 
 
+def write_text(arities, numbers, room):
+    """None for a last pair that is not whole: the reference takes pairs."""
+    if len(numbers) % 3:
+        return None
+    output = [7] * OUTPUT
+    try:
+        data = reference.write_table(arities, list(zip(*[iter(numbers)] * 3)), room)
+        said = 'written %d' % len(data)
+        output[:len(data)] = data
+    except Refused as why:
+        said = refused(why)
+    return said + ' output ' + bytes(output).hex()
+
+
 # ---- cases
 
 class Cases:
-    """Each method adds a case, with the reference's answer. Where another source tells the answer the two have to agree; for a match it may
-    leave out the buffers."""
+    """Each method adds a case, with the reference's answer where it has one. Where another source tells the answer the two have to agree;
+    for a match it may leave out the buffers."""
 
     def __init__(self):
         self.asked, self.lines = [], []
 
-    def add(self, kind, table, lists, numbers, answer, told):
-        if told is not None and answer != told and not answer.startswith(told + ' spans'):
-            sys.exit('kind %d, table %s, lists %s, numbers %s: %.300s, not %.300s' % (kind, table.hex(), lists, numbers, answer, told))
-        assert len(table) < 65536 and max(map(len, lists), default=0) <= LONGEST
-        if kind in ANSWERED:
-            sizes = [len(nodes) for nodes in lists] + [0] * (3 - len(lists))
-            header = [kind, len(table)] + sizes + list(numbers) + [0] * (3 - len(numbers))
-            words = header + [node for nodes in lists for node in nodes]
-            data = [two_bytes(word) for word in words]
-            self.asked.append(b''.join(data[:8]) + bytes(table) + b''.join(data[8:]))
-            self.lines.append('%d %s\n' % (len(self.lines), answer))
+    def add(self, kind, data, lists, numbers, answer, told):
+        if None not in (answer, told) and answer != told and not answer.startswith(told + ' spans'):
+            sys.exit('kind %d, bytes %.300s, lists %.300s, numbers %s: %.300s, not %.300s' % (kind, data.hex(), lists, numbers, answer, told))
+        assert len(data) <= BYTES and max(map(len, lists), default=0) <= LONGEST
+        sizes = two_numbers(len(data)) + [len(nodes) for nodes in lists] + [0] * (3 - len(lists))
+        header = [kind] + sizes + list(numbers) + [0] * (3 - len(numbers))
+        self.asked.append(words(header) + bytes(data) + b''.join(map(words, lists)))
+        self.lines.append('%d %s\n' % (len(self.lines), answer or told))
+
+    def is_table(self, table, told=None):
+        self.add(IS_TABLE, table, [], [], answered('table', lambda: reference.read_table(table) and ()), told)
+
+    def arity(self, table, symbol, told=None):
+        answer = answered('arity %d', lambda: reference.read_back(reference.read_table(table).arities, symbol))
+        self.add(ARITY, table, [], [symbol], answer, told)
+
+    def pair(self, table, index, told=None):
+        answer = answered('pair %d %d %d', lambda: reference.read_back(reference.read_table(table).pairs, index))
+        self.add(PAIR, table, [], two_numbers(index), answer, told)
+
+    def write(self, arities, pairs, room, told=None):
+        assert room < OUTPUT
+        self.add(WRITE, bytes(arities), [pairs], [room], write_text(arities, pairs, room), told)
 
     def symbol_degree(self, table, a, b, told=None):
-        answer = degree_text(lambda: reference.read_table(table).degree(a, b))
+        answer = answered('degree %d', lambda: reference.read_table(table).degree(a, b))
         self.add(SYMBOL_DEGREE, table, [], [a, b], answer, told)
 
     def degree(self, table, first, second, told=None):
-        self.add(DEGREE, table, [first, second], [], degree_text(reference.heading_degree, table, first, second), told)
+        answer = answered('degree %d', lambda: reference.heading_degree(table, first, second))
+        self.add(DEGREE, table, [first, second], [], answer, told)
 
     def subterm(self, table, term, index, told=None):
         start, count = reference.subterm(table, term, index)

@@ -4,13 +4,15 @@
     make_call_cases.py            writes both files
     make_call_cases.py --check    says whether the stored files are what is made today
 
-Where a case has a published answer, or one that the rules spell out, the reference has to agree with it.
+Where a case has a published answer, or one that the rules spell out, the reference has to agree with it. The last cases are those of
+table_cases.txt, with answers made by hand.
 """
 import stored
 from call_cases import GUARD, SETS, SPANS, Cases, part_text, runs
 from chosen_cases import GROUPS
 from drawing import Draw, damaged, damaged_table, draw_match, draw_table, stray
 from reference import table_bytes
+from table_cases import by_hand
 
 
 # ---- what is printed
@@ -81,6 +83,7 @@ def made():
         group(cases)
     for seed in range(300):
         drawn(cases, seed)
+    by_hand(cases)
     return {'stdin': b''.join(cases.asked), 'stdout': ''.join(cases.lines).encode()}, len(cases.lines)
 
 

@@ -65,6 +65,13 @@ def read_table(data):
     return Table(arities, pairs)
 
 
+def read_back(listed, index):
+    """The arity of a symbol, or the pair at an index, of a table's list."""
+    if index >= len(listed):
+        raise Refused(14, 0)
+    return listed[index]
+
+
 def two_bytes(n):
     return bytes([n % 256, n // 256])
 

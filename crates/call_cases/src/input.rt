@@ -1,13 +1,15 @@
-// The cases as standard input has them. A case is a header of eight numbers, the table's bytes and three lists of nodes. Numbers and nodes
-// are two bytes each, low byte first.
+// The cases as standard input has them. A case is a header of nine numbers, a list of bytes (the table, or the arities to be written) and three
+// lists of numbers (nodes, or the pairs to be written). Numbers are two bytes each, low byte first.
 ghost use Prim.Native.Nat.{_≤_};
 ghost use Rattle.io.specs.Counts.{Counts};
 use table::number::number_at;
 
-// Room for each list of a case.
-pub const LONGEST: usize = 1100;
+// Room for the bytes of a case, and for each list.
+pub const BYTES: usize = 65544;
 
-// Which call, and the numbers that it takes besides the table and the lists.
+pub const LONGEST: usize = 24579;
+
+// Which call, and the numbers that it takes besides the lists.
 pub struct Asked {
     pub kind: u16,
     pub x: u16,
@@ -15,10 +17,10 @@ pub struct Asked {
     pub z: u16,
 }
 
-// What is asked, how many bytes the table has, and how many nodes each list.
+// What is asked, and how many bytes and numbers the lists have.
 pub struct Header {
     pub asked: Asked,
-    pub bytes: u16,
+    pub bytes: usize,
     pub first: u16,
     pub second: u16,
     pub third: u16,
@@ -30,23 +32,28 @@ pub enum Next {
 }
 
 pub fn read_header() -> Next {
-    let mut numbers = [0u16; 8];
-    if read_numbers(&mut numbers, 8) < 8 {
+    let mut numbers = [0u16; 9];
+    if read_numbers(&mut numbers, 9) < 9 {
         return Next::End;
     }
     let asked = Asked {
         kind: numbers[0],
-        x: numbers[5],
-        y: numbers[6],
-        z: numbers[7],
+        x: numbers[6],
+        y: numbers[7],
+        z: numbers[8],
     };
     Next::Case(Header {
         asked,
-        bytes: numbers[1],
-        first: numbers[2],
-        second: numbers[3],
-        third: numbers[4],
+        bytes: sum(numbers[1], numbers[2]),
+        first: numbers[3],
+        second: numbers[4],
+        third: numbers[5],
     })
+}
+
+// A number that may be above 65,535 is told as two.
+pub fn sum(a: u16, b: u16) -> usize {
+    a as usize + b as usize
 }
 
 pub fn least(a: usize, b: usize) -> usize
@@ -56,10 +63,10 @@ pub fn least(a: usize, b: usize) -> usize
 }
 
 // Reads so many bytes to the front of the buffer, fewer where it or the input ends; answers how many.
-pub fn read_bytes(buffer: &mut [u8], count: u16) -> usize
+pub fn read_bytes(buffer: &mut [u8], count: usize) -> usize
     ensures { λ r. ⌜ Counts r (now (buffer .exit)) ⌝ }
 {
-    let n = least(count as usize, buffer.len());
+    let n = least(count, buffer.len());
     io::read_full(0, &mut buffer[..n])
 }
 
@@ -67,8 +74,8 @@ pub fn read_bytes(buffer: &mut [u8], count: u16) -> usize
 pub fn read_numbers(list: &mut [u16], count: u16) -> usize
     ensures { λ r. ⌜ Counts r (now (list .exit)) ⌝ }
 {
-    let mut bytes = io::buffer();
-    let n = read_bytes(&mut bytes, least(count as usize, LONGEST) as u16 * 2);
+    let mut bytes = io::large_buffer();
+    let n = read_bytes(&mut bytes, 2 * count as usize);
     numbers_of(&bytes[..n], list)
 }
 

@@ -1,10 +1,12 @@
 // Cases from standard input through the public calls, an answer to a line. The stored input and output are made by tests/make_call_cases.py
 // from a reference that was written from the rules alone.
 mod ask;
+mod buffers;
 mod input;
-mod matches;
 mod say;
+mod writes;
 
+use input::BYTES;
 use input::LONGEST;
 use input::Next;
 
@@ -12,7 +14,7 @@ use input::Next;
 fn answer_next(case: u16) -> bool {
     match input::read_header() {
         Next::Case(header) => {
-            let mut table = io::large_buffer();
+            let mut table = [0u8; BYTES];
             let bytes = input::read_bytes(&mut table, header.bytes);
             let mut first = [0u16; LONGEST];
             let m = input::read_numbers(&mut first, header.first);
@@ -28,6 +30,7 @@ fn answer_next(case: u16) -> bool {
                 &second[..n],
                 &third[..k],
             );
+            say::text(b"\n");
             true
         }
         Next::End => false,

@@ -7,25 +7,19 @@ use Rattle.call_cases.proofs.say.part.Statement.{statement}
 use Rattle.call_cases.proofs.say.part.Tie as tie
 
 abbrev Inv-loop : tie.InvT-loop
-Inv-loop what nodes i₀ t4 t5 i-end i = i-end ≡ length nodes
+Inv-loop what nodes i₀ t4 i-end i = i-end ≡ length nodes
 
 abbrev μ-loop : tie.MeasureT-loop
-μ-loop what nodes i₀ t4 t5 i-end i = i-end - i
+μ-loop what nodes i₀ t4 i-end i = i-end - i
 
-text-requires : tie.Need-text-requires Inv-loop μ-loop
-text-requires c κs = search needs
-
-number-requires : tie.Need-number-requires Inv-loop μ-loop
-number-requires c κs = search needs
+one-requires : tie.Need-one-requires Inv-loop μ-loop
+one-requires c κs = search needs
 
 loop-holds : tie.Need-loop-holds Inv-loop μ-loop
 loop-holds c = search needs
 
-slice-aggregate-text : tie.Need-slice-aggregate-text Inv-loop μ-loop
-slice-aggregate-text c = search needs
-
-text-requires-2 : tie.Need-text-requires-2 Inv-loop μ-loop
-text-requires-2 c κs = search needs
+slice-aggregate-one : tie.Need-slice-aggregate-one Inv-loop μ-loop
+slice-aggregate-one c = search needs
 
 mul-wide : tie.Need-mul-wide Inv-loop μ-loop
 mul-wide c = search needs
@@ -36,8 +30,8 @@ shared-slice-read-wide c = search needs
 wide-requires : tie.Need-wide-requires Inv-loop μ-loop
 wide-requires c κs = search needs
 
-number-requires-2 : tie.Need-number-requires-2 Inv-loop μ-loop
-number-requires-2 c κs = search needs
+one-requires-2 : tie.Need-one-requires-2 Inv-loop μ-loop
+one-requires-2 c κs = search needs
 
 add-i : tie.Need-add-i Inv-loop μ-loop
 add-i c = search needs
@@ -48,12 +42,6 @@ loop-less c = search needs
 loop-again : tie.Need-loop-again Inv-loop μ-loop
 loop-again c = search needs
 
-slice-aggregate-text-2 : tie.Need-slice-aggregate-text-2 Inv-loop μ-loop
-slice-aggregate-text-2 c = search needs
-
-text-requires-3 : tie.Need-text-requires-3 Inv-loop μ-loop
-text-requires-3 c κs = search needs
-
 returns : tie.Need-returns Inv-loop μ-loop
 returns c = search needs
 
@@ -63,18 +51,14 @@ part-spec =
     (tie.spec
     Inv-loop
     μ-loop
-    text-requires
-    number-requires
+    one-requires
     loop-holds
-    slice-aggregate-text
-    text-requires-2
+    slice-aggregate-one
     mul-wide
     shared-slice-read-wide
     wide-requires
-    number-requires-2
+    one-requires-2
     add-i
     loop-less
     loop-again
-    slice-aggregate-text-2
-    text-requires-3
     returns)

@@ -3,8 +3,8 @@ use Prim.Native.Nat.{_-_}
 use mathlib.Core.Path.{_≡_}
 use lib.ListN.{length}
 use borrow.Author.Needs.{needs}
-use Rattle.call_cases.proofs.matches.say_runs.Statement.{statement}
-use Rattle.call_cases.proofs.matches.say_runs.Tie as tie
+use Rattle.call_cases.proofs.buffers.say_runs.Statement.{statement}
+use Rattle.call_cases.proofs.buffers.say_runs.Tie as tie
 
 abbrev Inv-loop : tie.InvT-loop
 Inv-loop values first₀ i₀ i-end first i = i-end ≡ length values

@@ -3,8 +3,8 @@ use Prim.Native.Nat.{_≤_, _-_}
 use mathlib.Core.Path.{_≡_}
 use lib.ListN.{length}
 use borrow.Author.Needs.{needs}
-use Rattle.call_cases.proofs.matches.widen.Statement.{statement}
-use Rattle.call_cases.proofs.matches.widen.Tie as tie
+use Rattle.call_cases.proofs.buffers.widen.Statement.{statement}
+use Rattle.call_cases.proofs.buffers.widen.Tie as tie
 
 abbrev Inv-loop : tie.InvT-loop
 Inv-loop numbers words₀ i₀ i-end words i = (i-end ≤ length numbers) × (i-end ≤ length words₀) × (length words ≡ length words₀)

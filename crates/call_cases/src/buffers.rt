@@ -22,7 +22,6 @@ pub fn ask_match(asked: Asked, table: &[u8], pattern: &[u16], heading: &[u16]) {
     say_answer(lend(asked, table, pattern, heading, &mut spans, &mut sets));
     say_spans(&spans);
     say_sets(&sets);
-    say::text(b"\n");
 }
 
 // The call, with the front of each buffer.
@@ -49,10 +48,8 @@ fn lend(
 fn say_answer(answer: Outcome) {
     match answer {
         Outcome::Match(lowest, highest) => {
-            say::text(b" match ");
-            say::number(say::wide(lowest));
-            say::text(b" ");
-            say::number(say::wide(highest));
+            say::one(b" match ", say::wide(lowest));
+            say::one(b" ", say::wide(highest));
         }
         Outcome::Refused(why) => say::refused(why),
     }
@@ -102,12 +99,9 @@ fn say_run(first: usize, last: usize, value: u64) {
     if value == 0 {
         return;
     }
-    say::text(b" ");
-    say::number(first as u64);
+    say::one(b" ", first as u64);
     if first != last {
-        say::text(b"-");
-        say::number(last as u64);
+        say::one(b"-", last as u64);
     }
-    say::text(b":");
-    say::number(value);
+    say::one(b":", value);
 }

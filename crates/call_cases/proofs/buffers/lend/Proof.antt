@@ -3,8 +3,8 @@ use mathlib.Core.Path.{sym}
 use native.Mathlib.Omega.{arith}
 use lib.Seq.{length-take-le}
 use borrow.Author.Needs.{needs}
-use Rattle.call_cases.proofs.matches.lend.Statement.{statement}
-use Rattle.call_cases.proofs.matches.lend.Tie as tie
+use Rattle.call_cases.proofs.buffers.lend.Statement.{statement}
+use Rattle.call_cases.proofs.buffers.lend.Tie as tie
 
 cast-least : tie.Need-cast-least
 cast-least c = search needs
