@@ -1,9 +1,9 @@
 // Answers the question on standard input, on standard output.
-use serving::input::read_until;
-use serving::output::Pending;
-use serving::output::WORDS;
-use serving::output::serve;
-use serving::output::write_out;
+use input::reading::read_until;
+use output::pending::Pending;
+use output::pending::write_out;
+use serving::WORDS;
+use serving::serve;
 
 // A question that is longer than 65,535 bytes is refused for its length, so one byte more is enough to read.
 fn main() {

@@ -1,16 +1,16 @@
 // The calls, a kind of case for each.
+use crate::buffers::ask_match;
 use crate::input::Asked;
 use crate::input::sum;
-use crate::buffers::ask_match;
 use crate::say;
 use crate::writes::ask_write;
+use headings::degree_of_headings;
+use headings::nearer;
+use headings::subterm;
 use tables::arity_of;
 use tables::is_table;
 use tables::pair_of;
 use tables::symbol_degree;
-use headings::degree_of_headings;
-use headings::nearer;
-use headings::subterm;
 
 pub fn ask<'a>(asked: Asked, table: &[u8], first: &[u16], second: &'a [u16], third: &'a [u16]) {
     let kind = asked.kind;

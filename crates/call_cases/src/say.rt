@@ -1,9 +1,9 @@
 // Answers as text, a line for each case. What follows the case's number begins with a space.
+use refusal::Refusal;
 use tables::ArityAnswer;
 use tables::DegreeAnswer;
 use tables::PairAnswer;
 use tables::TableAnswer;
-use refusal::Refusal;
 use writer::Writing;
 
 pub fn text(words: &[u8]) {

@@ -1,8 +1,8 @@
 -- A turn keeps the bounds of what it is made of.
 use Prim.Native.Nat.{ℕ, _≤_}
-use Rattle.serving.specs.declared.output.Pending.{Pending}
-use Rattle.serving.specs.declared.output.Pending.the-variants.{Bytes, Failed}
-use Rattle.serving.specs.Pendings.{Standing}
+use Rattle.output.specs.declared.pending.Pending.{Pending}
+use Rattle.output.specs.declared.pending.Pending.the-variants.{Bytes, Failed}
+use Rattle.output.specs.Pendings.{Standing}
 use Rattle.replay.specs.Turns.{goOn, stopAt, Held}
 
 pub held-go : (room all at end : ℕ) (pending : Pending) → at ≤ end → end ≤ room → Standing all pending → Held room all (goOn at end pending)

@@ -1,4 +1,2 @@
 -- Names that contracts use.
-pub mod Found
-pub mod Titles
 pub mod Turns

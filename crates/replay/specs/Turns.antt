@@ -1,7 +1,7 @@
 -- What comes of a question, and that what is not used yet and what is still to be written lie in their buffers.
 use Prim.Native.Nat.{ℕ, _≤_}
-use Rattle.serving.specs.declared.output.Pending.{Pending}
-use Rattle.serving.specs.declared.output.Pending.the-variants.{Bytes, Failed as NotWritten}
+use Rattle.output.specs.declared.pending.Pending.{Pending}
+use Rattle.output.specs.declared.pending.Pending.the-variants.{Bytes, Failed as NotWritten}
 use Rattle.replay.specs.declared.Turn.{Turn}
 use Rattle.replay.specs.declared.Turn.the-variants.{Go, Stop, Failed}
 

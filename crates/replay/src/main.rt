@@ -1,19 +1,16 @@
 // Answers the questions on standard input, one after the other, on standard output.
-mod batch;
-mod say;
-
 ghost use mathlib.Core.Path.{_≡_};
 ghost use Prim.Native.Nat.{_≤_};
 ghost use lib.ListN.{length};
 ghost use Rattle.replay.specs.Turns.{goOn, stopAt, Held};
-use batch::Next;
-use batch::next_question;
-use say::say_answer;
-use say::say_cut_off;
-use say::say_too_long;
-use serving::output::Pending;
-use serving::output::WORDS;
-use serving::output::write_out;
+use input::batch::Next;
+use input::batch::next_question;
+use output::pending::Pending;
+use output::pending::write_out;
+use output::say::say_cut_off;
+use output::say::say_too_long;
+use serving::WORDS;
+use serving::say_answer;
 
 // Twice as much as a question may have, so that bytes are moved seldom.
 const ROOM: usize = 131072;

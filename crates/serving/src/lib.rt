@@ -1,3 +1,43 @@
-// What the programs share: bytes from standard input, and answers to standard output, both in large pieces.
-pub mod input;
-pub mod output;
+// Questions answered, behind what is still to be written.
+ghost use Prim.Native.Nat.{_≤_};
+ghost use lib.ListN.{length};
+ghost use Rattle.shape.specs.Rooms.{roomFor};
+ghost use Rattle.output.specs.Pendings.{Standing};
+use output::pending::Pending;
+use output::pending::put_answer;
+use output::say::say_title;
+use question::answer::answer;
+use shape::room::room_for;
+
+// Room for the sets of any answer.
+pub const WORDS: usize = 4100;
+
+// Puts the answer to a question behind what stands in the buffer, in sets of their own size.
+fn serve_in(question: &[u8], sets: &mut [u64], out: &mut [u8], used: usize) -> Pending
+    requires { ⌜ (roomFor (now question) ≤ length (now sets)) × (used ≤ length (now out)) × (2048 ≤ length (now out)) ⌝ }
+    ensures { λ r. ⌜ Standing (length (now (out .entry))) r ⌝ }
+{
+    let mut spans = [0u16; 64];
+    let reply = answer(question, &mut spans, sets);
+    put_answer(reply, &spans, sets, out, used)
+}
+
+// Puts the answer to a question behind what stands in the buffer. Of the sets no more is used than the question's heading has nodes for.
+pub fn serve(question: &[u8], sets: &mut [u64], out: &mut [u8], used: usize) -> Pending
+    requires { ⌜ (4100 ≤ length (now sets)) × (used ≤ length (now out)) × (2048 ≤ length (now out)) ⌝ }
+    ensures { λ r. ⌜ Standing (length (now (out .entry))) r ⌝ }
+{
+    let room = room_for(question);
+    serve_in(question, &mut sets[..room], out, used)
+}
+
+// The line with the question's number, and then its answer.
+pub fn say_answer(k: u64, question: &[u8], sets: &mut [u64], out: &mut [u8], used: usize) -> Pending
+    requires { ⌜ (4100 ≤ length (now sets)) × (used ≤ length (now out)) × (2048 ≤ length (now out)) ⌝ }
+    ensures { λ r. ⌜ Standing (length (now (out .entry))) r ⌝ }
+{
+    match say_title(k, out, used) {
+        Pending::Bytes(at) => serve(question, sets, out, at),
+        Pending::Failed => Pending::Failed,
+    }
+}

@@ -5,8 +5,8 @@ use Prim.Native.Nat.{_≤_}
 use native.Mathlib.Omega.{arith}
 use denote.Ref.{now}
 use lib.ListN.{length}
-use Rattle.serving.specs.Pendings.{Standing}
-use Rattle.replay.specs.Found.{Found}
+use Rattle.output.specs.Pendings.{Standing}
+use Rattle.input.specs.Found.{Found}
 use Rattle.replay.specs.Turns.{Held}
 use Rattle.replay.proofs.Turning.{held-go, held-stop}
 use Rattle.replay.proofs.answer_next.Statement.{statement}

@@ -1,0 +1,50 @@
+-- Behind the title there is room for the words.
+use borrow.Author.Needs.{needs}
+use mathlib.Core.Path.{subst}
+use native.Mathlib.Omega.{arith}
+use Rattle.output.specs.Titles.{Roomy}
+use Rattle.output.proofs.say.say_cut_off.Statement.{statement}
+use Rattle.output.proofs.say.say_cut_off.Tie as tie
+
+say-title-requires : tie.Need-say-title-requires
+say-title-requires c κs = search needs
+
+enum-known-at : tie.Need-enum-known-at
+enum-known-at c = search needs
+
+slice-aggregate-put-text : tie.Need-slice-aggregate-put-text
+slice-aggregate-put-text c = search needs
+
+put-text-requires : tie.Need-put-text-requires
+put-text-requires c κs =
+    let title = c .before .before .before .before .before .before .before .say-title in
+    omega (arith, subst (Roomy _ 2018) (c .before .before .before .at .given .1) (title .ensures), title .kept .1 .0)
+
+enum-told : tie.Need-enum-told
+enum-told c = search needs
+
+same-length : tie.Need-same-length
+same-length c = search needs
+
+returns : tie.Need-returns
+returns c = search needs
+
+same-length-2 : tie.Need-same-length-2
+same-length-2 c = search needs
+
+returns-2 : tie.Need-returns-2
+returns-2 c = search needs
+
+pub say-cut-off-spec : {M : Type 1} → statement M
+say-cut-off-spec =
+    tie.close
+    (tie.spec
+    say-title-requires
+    enum-known-at
+    slice-aggregate-put-text
+    put-text-requires
+    enum-told
+    same-length
+    returns
+    same-length-2
+    returns-2)

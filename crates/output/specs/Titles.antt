@@ -1,0 +1,8 @@
+-- Behind what is still to be written there is so much room, of all that the buffer has.
+use Prim.Native.Nat.{ℕ, _+_, _≤_}
+use Rattle.output.specs.declared.pending.Pending.{Pending}
+use Rattle.output.specs.declared.pending.Pending.the-variants.{Bytes, Failed}
+
+abbrev pub Roomy : ℕ → ℕ → Pending → Type 0
+Roomy all room (Bytes used) = used + room ≤ all
+Roomy all room Failed = Unit {0}

@@ -1,0 +1,3 @@
+// What the programs say, to standard output in large pieces.
+pub mod pending;
+pub mod say;

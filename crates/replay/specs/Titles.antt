@@ -1,8 +1,0 @@
--- Behind what is still to be written there is so much room, of all that the buffer has.
-use Prim.Native.Nat.{ℕ, _+_, _≤_}
-use Rattle.serving.specs.declared.output.Pending.{Pending}
-use Rattle.serving.specs.declared.output.Pending.the-variants.{Bytes, Failed}
-
-abbrev pub Roomy : ℕ → ℕ → Pending → Type 0
-Roomy all room (Bytes used) = used + room ≤ all
-Roomy all room Failed = Unit {0}

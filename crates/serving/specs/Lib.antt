@@ -1,3 +1,0 @@
--- Names that contracts use.
-pub mod Unreads
-pub mod Pendings
