@@ -30,12 +30,12 @@ use Rattle.near.specs.Near.{nearWords, NearSets}
 use Rattle.facing.specs.Faced.{ClearBy}
 use Rattle.positions.specs.Facing.{Within, Covers, NearOf}
 use Rattle.facing.specs.Gathering.{GatheredBy}
-use Rattle.positions.specs.Variable.{PackedTo}
+use Rattle.variable.specs.Variable.{PackedTo}
 use Rattle.packing.specs.Pack.{Packable, Room, PackedNext}
 use Rattle.packing.specs.declared.Search.{Search}
 use Rattle.facing.proofs.Faced.{faced-in, gathered-in}
 use Rattle.facing.proofs.Passing.{readable, few-nodes}
-use Rattle.positions.proofs.Positions.{positions-first}
+use Rattle.variable.proofs.Positions.{positions-first}
 
 -- ---- the notes of one variable
 

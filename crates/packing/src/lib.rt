@@ -14,10 +14,10 @@ ghost use Rattle.packing.specs.Pack.{Packable, PackableNext, Room, Packe
 use degrees::lesser;
 use facing::gather::gather;
 use near::near_sets;
-use positions::variable::pack_variable;
 use table::read::symbol_count;
 use terms::kind::Kind;
 use terms::kind::kind_of;
+use variable::pack_variable;
 
 pub struct Search {
     // how many positions are packed

@@ -1,3 +1,2 @@
 -- Names that contracts use.
 pub mod Facing
-pub mod Variable

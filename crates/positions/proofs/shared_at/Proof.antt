@@ -7,8 +7,8 @@ use Rattle.meaning.specs.File.{tableIn}
 use Rattle.meaning.proofs.Sound.{sound}
 use Rattle.positions.specs.Facing.{SharedAt}
 use Rattle.positions.proofs.Standing.{shared-none, shared-next}
-use Rattle.positions.proofs.position.shared_at.Statement.{statement}
-use Rattle.positions.proofs.position.shared_at.Tie as tie
+use Rattle.positions.proofs.shared_at.Statement.{statement}
+use Rattle.positions.proofs.shared_at.Tie as tie
 
 abbrev Inv-loop : tie.InvT-loop
 Inv-loop table symbols pairs heading starts sizes count k symbol least₀ o₀ least o =

@@ -6,8 +6,8 @@ use native.Mathlib.Omega.{arith}
 use lib.ListN.{length}
 use Rattle.meaning.specs.Limits.{setWords}
 use Rattle.positions.proofs.Standing.{near-members, near-inside, near-past}
-use Rattle.positions.proofs.position.near_at.Statement.{statement}
-use Rattle.positions.proofs.position.near_at.Tie as tie
+use Rattle.positions.proofs.near_at.Statement.{statement}
+use Rattle.positions.proofs.near_at.Tie as tie
 
 empty-requires : tie.Need-empty-requires
 empty-requires c κs = search needs

@@ -14,11 +14,11 @@ use Rattle.meaning.specs.Limits.{setWords}
 use Rattle.meaning.specs.File.{tableIn}
 use Rattle.sets.specs.Words.{Words}
 use Rattle.sets.proofs.Laws.{words-of}
 use Rattle.positions.specs.Facing.{NearOf}
-use Rattle.positions.specs.Variable.{PackedTo}
-use Rattle.positions.proofs.Positions.{positions-first, packed-none, packed-next}
-use Rattle.positions.proofs.variable.pack_variable.Statement.{statement}
-use Rattle.positions.proofs.variable.pack_variable.Tie as tie
+use Rattle.variable.specs.Variable.{PackedTo}
+use Rattle.variable.proofs.Positions.{positions-first, packed-none, packed-next}
+use Rattle.variable.proofs.pack_variable.Statement.{statement}
+use Rattle.variable.proofs.pack_variable.Tie as tie
 
 abbrev Inv-loop : tie.InvT-loop
 Inv-loop table near heading starts sizes count at sets₀ formed₀ lowest₀ highest₀ k₀ k-end sets formed lowest highest k =

@@ -4,8 +4,8 @@ use native.Mathlib.Omega.{arith}
 use Rattle.meaning.specs.File.{tableIn}
 use Rattle.meaning.proofs.Sound.{sound}
 use Rattle.positions.proofs.Standing.{degree-inside, degree-past}
-use Rattle.positions.proofs.position.degree_at.Statement.{statement}
-use Rattle.positions.proofs.position.degree_at.Tie as tie
+use Rattle.positions.proofs.degree_at.Statement.{statement}
+use Rattle.positions.proofs.degree_at.Tie as tie
 
 returns : tie.Need-returns
 returns c = degree-past (sound _ (c .before .before .before .pre .0 .sound) .lawful) _ _ _ _ _ (omega arith)

@@ -4,8 +4,8 @@ use Prim.Native.Nat.{_+_, _<_}
 use native.Mathlib.Omega.{arith}
 use lib.ListN.{length, getD}
 use Rattle.positions.proofs.Same.{same-degrees}
-use Rattle.positions.proofs.position.degrees_at.Statement.{statement}
-use Rattle.positions.proofs.position.degrees_at.Tie as tie
+use Rattle.positions.proofs.degrees_at.Statement.{statement}
+use Rattle.positions.proofs.degrees_at.Tie as tie
 
 -- the position's node is in the heading
 inside : (s : tie.Start) → getD (s .args .starts .now) 0 0 + s .args .k < length (s .args .heading .now)

@@ -7,8 +7,8 @@ use Prim.Native.Nat.{ℕ, _+_, _-_, _≤_, _<_}
 use native.Mathlib.Omega.{arith}
 use lib.ListN.{length, getD}
 use Rattle.positions.specs.Facing.{SameAt}
-use Rattle.positions.proofs.position.same_at.Statement.{statement}
-use Rattle.positions.proofs.position.same_at.Tie as tie
+use Rattle.positions.proofs.same_at.Statement.{statement}
+use Rattle.positions.proofs.same_at.Tie as tie
 
 abbrev Inv-loop : tie.InvT-loop
 Inv-loop heading starts sizes count k symbol other₀ other = (other ≤ count) × SameAt heading starts sizes k other

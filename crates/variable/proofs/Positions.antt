@@ -27,7 +27,7 @@ use Rattle.meaning.proofs.Rated.{lowest-last}
 use Rattle.meaning.proofs.Words.{through-last, words-last}
 use Rattle.sets.specs.Words.{Words}
 use Rattle.sets.proofs.Laws.{image-of}
-use Rattle.positions.specs.Variable.{PackedTo}
+use Rattle.variable.specs.Variable.{PackedTo}
 
 -- LAW: where the numbers that pass a test are below n, one below n passes unless none at all does
 pub some-unless : (n : ℕ) (b : ℕ → Bool) (none : Bool) → ((s : ℕ) → n ≤ s → b s ≡ false) → (none ≡ true) ↔ ((s : ℕ) → b s ≡ false)

@@ -11,8 +11,8 @@ use Rattle.theory.specs.Stands.{Gathered}
 use Rattle.meaning.specs.Limits.{setWords}
 use Rattle.meaning.specs.Packing.{through, allWords}
 use Rattle.meaning.specs.Over.{over}
 use Rattle.positions.specs.Facing.{NearOf}
-use Rattle.positions.specs.declared.variable.Found.{Found}
+use Rattle.variable.specs.declared.Found.{Found}
 
 -- The first n positions of a variable that the terms ts face are packed over the buffer `before`, from position `start` on: their sets, whether
 -- none of these is empty, and the least of what the positions have as their lowest and as their highest degree.

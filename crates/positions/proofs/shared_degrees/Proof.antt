@@ -9,8 +9,8 @@ use Rattle.meaning.specs.Limits.{setRoom}
 use Rattle.meaning.specs.File.{tableIn}
 use Rattle.meaning.specs.Buffers.{member}
 use Rattle.positions.proofs.Standing.{RatedBelow, rated-in, rated-out, rated-all}
-use Rattle.positions.proofs.position.shared_degrees.Statement.{statement}
-use Rattle.positions.proofs.position.shared_degrees.Tie as tie
+use Rattle.positions.proofs.shared_degrees.Statement.{statement}
+use Rattle.positions.proofs.shared_degrees.Tie as tie
 
 abbrev Inv-loop : tie.InvT-loop
 Inv-loop table heading starts sizes count k set symbols pairs lowest₀ highest₀ s₀ lowest highest s =

@@ -7,8 +7,8 @@ use native.Mathlib.Omega.{arith}
 use Rattle.theory.specs.Table.{Table}
 use Rattle.positions.specs.Facing.{NearOf, SetAt}
 use Rattle.positions.proofs.Standing.{set-first, set-next}
-use Rattle.positions.proofs.position.set_at.Statement.{statement}
-use Rattle.positions.proofs.position.set_at.Tie as tie
+use Rattle.positions.proofs.set_at.Statement.{statement}
+use Rattle.positions.proofs.set_at.Tie as tie
 
 abbrev Inv-loop : tie.InvT-loop
 Inv-loop near heading starts sizes count k set₀ o₀ set o =

@@ -4,11 +4,11 @@ ghost use lib.ListN.{length, getD};
 ghost use Rattle.meaning.specs.Limits.{setWords};
 ghost use Rattle.meaning.specs.File.{tableIn};
 ghost use Rattle.meaning.specs.Refusals.{SoundFile};
 ghost use Rattle.positions.specs.Facing.{Within, Covers};
-ghost use Rattle.positions.specs.Variable.{VariablePacked};
-use crate::position::degrees_at;
-use crate::position::set_at;
+ghost use Rattle.variable.specs.Variable.{VariablePacked};
 use degrees::lesser;
+use positions::degrees_at;
+use positions::set_at;
 use sets::SymbolSet;
 
 pub struct Found {

@@ -1,0 +1,2 @@
+-- Laws that the proofs of functions cite, here and in the crates above.
+pub mod Positions
