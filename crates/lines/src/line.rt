@@ -90,6 +90,17 @@ fn after_position(spans: &[u16], v: u16, k: u16) -> Cursor
 
 // ---- one line
 
+// Two numbers, and the end of the line.
+fn put_numbers(out: &mut [u8], at: usize, first: u16, second: u16) -> usize
+    requires { ⌜ at + 12 ≤ length (now out) ⌝ }
+    ensures { λ r. ⌜ PutBy (now (out .entry)) at (line (numeral first ∷ numeral second ∷ [])) r (now (out .exit)) ⌝ }
+{
+    let first_end = put_number(out, at, first);
+    let second_at = put_byte(out, first_end, 32);
+    let second_end = put_number(out, second_at, second);
+    put_byte(out, second_end, 10)
+}
+
 // A word and two numbers.
 fn put_fields(out: &mut [u8], at: usize, word: &[u8], first: u16, second: u16) -> usize
     requires { ⌜ at + length (now word) + 13 ≤ length (now out) ⌝ }
@@ -97,10 +108,7 @@ fn put_fields(out: &mut [u8], at: usize, word: &[u8], first: u16, second: u16) -
 {
     let word_end = put_text(out, at, word);
     let first_at = put_byte(out, word_end, 32);
-    let first_end = put_number(out, first_at, first);
-    let second_at = put_byte(out, first_end, 32);
-    let second_end = put_number(out, second_at, second);
-    put_byte(out, second_end, 10)
+    put_numbers(out, first_at, first, second)
 }
 
 fn put_reply(out: &mut [u8], at: usize, reply: Reply) -> usize
@@ -118,10 +126,7 @@ fn put_variable(out: &mut [u8], at: usize, v: u16, count: u16) -> usize
     ensures { λ r. ⌜ PutBy (now (out .entry)) at (variableLine v count) r (now (out .exit)) ⌝ }
 {
     let v_at = put_byte(out, at, 120);
-    let v_end = put_number(out, v_at, v);
-    let count_at = put_byte(out, v_end, 32);
-    let count_end = put_number(out, count_at, count);
-    put_byte(out, count_end, 10)
+    put_numbers(out, v_at, v, count)
 }
 
 // Whether symbol k is in the set at a position.
