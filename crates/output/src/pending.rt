@@ -27,6 +27,21 @@ pub fn write_out(out: &[u8], used: usize) -> bool
     taken
 }
 
+// Before one waits, what stands in the buffer is written.
+pub fn settle(out: &[u8], used: usize, waits: bool) -> Pending
+    requires { ⌜ used ≤ length (now out) ⌝ }
+    ensures { λ r. ⌜ Standing (length (now (out .entry))) r ⌝ }
+{
+    if !waits {
+        return Pending::Bytes(used);
+    }
+    if write_out(out, used) {
+        Pending::Bytes(0)
+    } else {
+        Pending::Failed
+    }
+}
+
 fn is_over(cursor: Cursor) -> bool
     ensures { λ r. ⌜ r ≡ isOver cursor ⌝ }
 {

@@ -2,10 +2,12 @@
 ghost use mathlib.Core.Path.{_≡_};
 ghost use Prim.Native.Nat.{_≤_};
 ghost use lib.ListN.{length};
+ghost use Rattle.input.specs.Found.{Found};
 ghost use Rattle.replay.specs.Turns.{goOn, stopAt, Held};
 use input::batch::Next;
 use input::batch::next_question;
 use output::pending::Pending;
+use output::pending::settle;
 use output::pending::write_out;
 use output::say::say_cut_off;
 use output::say::say_too_long;
@@ -42,21 +44,20 @@ fn stop(pending: Pending) -> Turn
     }
 }
 
-// Answers question k, if there is one.
+// Says what there is to say of question k, if there is one.
 fn answer_next(
     k: u64,
-    buffer: &mut [u8],
-    at: usize,
-    end: usize,
+    next: Next,
+    buffer: &[u8],
     sets: &mut [u64],
     out: &mut [u8],
     used: usize,
 ) -> Turn
-    requires { ⌜ (at ≤ end) × (end ≤ length (now buffer)) × (65535 ≤ length (now buffer)) ⌝ }
+    requires { ⌜ Found (length (now buffer)) next ⌝ }
     requires { ⌜ (4100 ≤ length (now sets)) × (used ≤ length (now out)) × (2048 ≤ length (now out)) ⌝ }
     ensures { λ r. ⌜ Held (length (now (buffer .entry))) (length (now (out .entry))) r ⌝ }
 {
-    match next_question(buffer, at, end) {
+    match next {
         Next::Ended => Turn::Stop(used),
         Next::CutOff => stop(say_cut_off(k, out, used)),
         Next::TooLong(rest, end) => go(rest, end, say_too_long(k, out, used)),
@@ -82,28 +83,24 @@ fn take_turn(
     requires { ⌜ (4100 ≤ length (now sets)) × (used ≤ length (now out)) × (2048 ≤ length (now out)) ⌝ }
     ensures { λ r. ⌜ Held (length (now (buffer .entry))) (length (now (out .entry))) r ⌝ }
 {
-    if at < end {
-        return answer_next(k, buffer, at, end, sets, out, used);
+    match settle(out, used, at == end) {
+        Pending::Bytes(left) => {
+            let next = next_question(buffer, at, end);
+            answer_next(k, next, buffer, sets, out, left)
+        }
+        Pending::Failed => Turn::Failed,
     }
-    if !write_out(out, used) {
-        return Turn::Failed;
-    }
-    answer_next(k, buffer, at, end, sets, out, 0)
 }
 
 // Turn after turn, until the batch is over.
 fn answer_all(buffer: &mut [u8], sets: &mut [u64], out: &mut [u8])
     requires { ⌜ (65535 ≤ length (now buffer)) × (4100 ≤ length (now sets)) × (2048 ≤ length (now out)) ⌝ }
 {
-    let mut at: usize = 0;
-    let mut end: usize = 0;
-    let mut used: usize = 0;
+    let mut turn = Turn::Go(0, 0, 0);
     for k in 0..u64::MAX {
-        match take_turn(k, buffer, at, end, sets, out, used) {
-            Turn::Go(new_at, new_end, new_used) => {
-                at = new_at;
-                end = new_end;
-                used = new_used;
+        match turn {
+            Turn::Go(at, end, used) => {
+                turn = take_turn(k, buffer, at, end, sets, out, used);
             }
             Turn::Stop(left) => {
                 write_out(out, left);
