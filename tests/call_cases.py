@@ -69,6 +69,11 @@ def match_text(table, pattern, heading, cut, spans_lent, sets_lent):
     return said + ' spans' + runs(spans) + ' sets' + runs(sets)
 
 
+def output_text(output):
+    """What a write left, as numbers of two bytes."""
+    return ' ' + part_text('output', [reference.number(output, i) for i in range(0, len(output), 2)])
+
+
 def write_text(arities, numbers, room):
     """None for a last pair that is not whole: the reference takes pairs."""
     if len(numbers) % 3:
@@ -80,7 +85,7 @@ def write_text(arities, numbers, room):
         output[:len(data)] = data
     except Refused as why:
         said = refused(why)
-    return said + ' output ' + bytes(output).hex()
+    return said + output_text(output)
 
 
 # ---- cases

@@ -2,6 +2,7 @@
 import os
 import re
 
+from call_cases import output_text
 from stored import HERE
 
 
@@ -39,7 +40,7 @@ class Lists:
 
     def answer(self, text):
         said, output, after = text.partition(' output ')
-        return said + output + bytes(self.numbers(after)).hex()
+        return said + output_text(self.numbers(after)) if output else said
 
 
 def each(line):

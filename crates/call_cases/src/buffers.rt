@@ -21,7 +21,7 @@ pub fn ask_match(asked: Asked, table: &[u8], pattern: &[u16], heading: &[u16]) {
     let mut sets = [GUARD as u64; SETS];
     say_answer(lend(asked, table, pattern, heading, &mut spans, &mut sets));
     say_spans(&spans);
-    say_sets(&sets);
+    say_runs(b" sets", &sets);
 }
 
 // The call, with the front of each buffer.
@@ -48,8 +48,8 @@ fn lend(
 fn say_answer(answer: Outcome) {
     match answer {
         Outcome::Match(lowest, highest) => {
-            say::one(b" match ", say::wide(lowest));
-            say::one(b" ", say::wide(highest));
+            say::one(b" match ", lowest as u64);
+            say::one(b" ", highest as u64);
         }
         Outcome::Refused(why) => say::refused(why),
     }
@@ -58,13 +58,7 @@ fn say_answer(answer: Outcome) {
 fn say_spans(spans: &[u16]) {
     let mut words = [0u64; SPANS];
     widen(spans, &mut words);
-    say::text(b" spans");
-    say_runs(&words);
-}
-
-fn say_sets(sets: &[u64]) {
-    say::text(b" sets");
-    say_runs(sets);
+    say_runs(b" spans", &words);
 }
 
 fn widen(numbers: &[u16], words: &mut [u64]) {
@@ -74,7 +68,8 @@ fn widen(numbers: &[u16], words: &mut [u64]) {
 }
 
 // A list by its runs of equal numbers.
-fn say_runs(values: &[u64]) {
+fn say_runs(what: &[u8], values: &[u64]) {
+    say::text(what);
     let mut first = 0;
     for i in 0..values.len() {
         if ends_run(values, i) {

@@ -17,10 +17,11 @@ pub struct Asked {
     pub z: u16,
 }
 
-// What is asked, and how many bytes and numbers the lists have.
+// What is asked, and how many bytes and numbers the lists have. The bytes may be more than 65,535, so their count is told as two numbers.
 pub struct Header {
     pub asked: Asked,
-    pub bytes: usize,
+    pub bytes: u16,
+    pub more: u16,
     pub first: u16,
     pub second: u16,
     pub third: u16,
@@ -44,16 +45,12 @@ pub fn read_header() -> Next {
     };
     Next::Case(Header {
         asked,
-        bytes: sum(numbers[1], numbers[2]),
+        bytes: numbers[1],
+        more: numbers[2],
         first: numbers[3],
         second: numbers[4],
         third: numbers[5],
     })
-}
-
-// A number that may be above 65,535 is told as two.
-pub fn sum(a: u16, b: u16) -> usize {
-    a as usize + b as usize
 }
 
 pub fn least(a: usize, b: usize) -> usize
@@ -80,7 +77,7 @@ pub fn read_numbers(list: &mut [u16], count: u16) -> usize
 }
 
 // Puts the numbers that the bytes write to the front of the list; answers how many.
-fn numbers_of(bytes: &[u8], list: &mut [u16]) -> usize
+pub fn numbers_of(bytes: &[u8], list: &mut [u16]) -> usize
     ensures { λ r. ⌜ Counts r (now (list .exit)) ⌝ }
 {
     let n = least(bytes.len() / 2, list.len());

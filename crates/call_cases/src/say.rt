@@ -10,22 +10,19 @@ pub fn text(words: &[u8]) {
     io::write_all(1, words);
 }
 
-pub fn number(n: u64) {
-    io::print_decimal(1, n);
-}
-
 pub fn wide(n: u16) -> u64 {
     n as u64
 }
 
+// What is said of a number, and the number.
 pub fn one(what: &[u8], n: u64) {
-    text(what);
-    number(n);
+    io::write_all(1, what);
+    io::print_decimal(1, n);
 }
 
 pub fn refused(why: Refusal) {
-    one(b" refused ", wide(why.number()));
-    one(b" ", wide(why.place()));
+    one(b" refused ", why.number() as u64);
+    one(b" ", why.place() as u64);
 }
 
 pub fn table(answer: TableAnswer) {
@@ -37,7 +34,7 @@ pub fn table(answer: TableAnswer) {
 
 pub fn degree(answer: DegreeAnswer) {
     match answer {
-        DegreeAnswer::Degree(d) => one(b" degree ", wide(d)),
+        DegreeAnswer::Degree(d) => one(b" degree ", d as u64),
         DegreeAnswer::Refused(why) => refused(why),
     }
 }
@@ -52,9 +49,9 @@ pub fn arity(answer: ArityAnswer) {
 pub fn pair(answer: PairAnswer) {
     match answer {
         PairAnswer::Listed(p) => {
-            one(b" pair ", wide(p.lower));
-            one(b" ", wide(p.higher));
-            one(b" ", wide(p.degree));
+            one(b" pair ", p.lower as u64);
+            one(b" ", p.higher as u64);
+            one(b" ", p.degree as u64);
         }
         PairAnswer::Refused(why) => refused(why),
     }
@@ -72,16 +69,5 @@ pub fn part(what: &[u8], nodes: &[u16]) {
     one(what, nodes.len() as u64);
     for i in 0..nodes.len() {
         one(b" ", wide(nodes[i]));
-    }
-}
-
-fn byte(b: u8) {
-    io::print_hex(1, b as u64, 2);
-}
-
-// Two hexadecimal digits for each byte.
-pub fn bytes(list: &[u8]) {
-    for i in 0..list.len() {
-        byte(list[i]);
     }
 }

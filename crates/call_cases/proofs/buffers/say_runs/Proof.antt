@@ -7,10 +7,13 @@ use Rattle.call_cases.proofs.buffers.say_runs.Statement.{statement}
 use Rattle.call_cases.proofs.buffers.say_runs.Tie as tie
 
 abbrev Inv-loop : tie.InvT-loop
-Inv-loop values first₀ i₀ i-end first i = i-end ≡ length values
+Inv-loop what values first₀ i₀ i-end first i = i-end ≡ length values
 
 abbrev μ-loop : tie.MeasureT-loop
-μ-loop values first₀ i₀ i-end first i = i-end - i
+μ-loop what values first₀ i₀ i-end first i = i-end - i
+
+text-requires : tie.Need-text-requires Inv-loop μ-loop
+text-requires c κs = search needs
 
 loop-holds : tie.Need-loop-holds Inv-loop μ-loop
 loop-holds c = search needs
@@ -48,6 +51,7 @@ say-runs-spec =
     (tie.spec
     Inv-loop
     μ-loop
+    text-requires
     loop-holds
     ends-run-requires
     mul-say-run
