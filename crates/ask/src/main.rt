@@ -2,8 +2,8 @@
 use input::reading::read_until;
 use output::pending::Pending;
 use output::pending::write_out;
-use serving::WORDS;
-use serving::serve;
+use question::serving::WORDS;
+use question::serving::serve;
 
 // A question that is longer than 65,535 bytes is refused for its length, so one byte more is enough to read.
 fn main() {

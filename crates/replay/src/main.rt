@@ -11,8 +11,8 @@ use output::pending::settle;
 use output::pending::write_out;
 use output::say::say_cut_off;
 use output::say::say_too_long;
-use serving::WORDS;
-use serving::say_answer;
+use question::serving::WORDS;
+use question::serving::say_answer;
 
 // Twice as much as a question may have, so that bytes are moved seldom.
 const ROOM: usize = 131072;

@@ -3,10 +3,10 @@ ghost use Prim.Native.Nat.{_≤_};
 ghost use lib.ListN.{length};
 ghost use Rattle.shape.specs.Rooms.{roomFor};
 ghost use Rattle.output.specs.Pendings.{Standing};
+use crate::answer::answer;
 use output::pending::Pending;
 use output::pending::put_answer;
 use output::say::say_title;
-use question::answer::answer;
 use shape::room::room_for;
 
 // Room for the sets of any answer.

@@ -4,8 +4,8 @@ use mathlib.Core.Path.{subst}
 use native.Mathlib.Omega.{arith}
 use Rattle.output.specs.Pendings.{Standing}
 use Rattle.output.specs.Titles.{Roomy}
-use Rattle.serving.proofs.say_answer.Statement.{statement}
-use Rattle.serving.proofs.say_answer.Tie as tie
+use Rattle.question.proofs.serving.say_answer.Statement.{statement}
+use Rattle.question.proofs.serving.say_answer.Tie as tie
 
 say-title-requires : tie.Need-say-title-requires
 say-title-requires c κs = search needs

@@ -7,8 +7,8 @@ use denote.Ref.{now}
 use lib.ListN.{length}
 use lib.Seq.{length-take-le}
 use Rattle.shape.proofs.Rooms.{room-most}
-use Rattle.serving.proofs.serve.Statement.{statement}
-use Rattle.serving.proofs.serve.Tie as tie
+use Rattle.question.proofs.serving.serve.Statement.{statement}
+use Rattle.question.proofs.serving.serve.Tie as tie
 
 room-inside : (c : tie.After-room-for) → c .room-for .result ≤ length (now (c .before .before .before .before .args .sets))
 room-inside c = omega (arith, c .room-for .ensures, room-most (now (c .before .before .before .before .args .question)), c .before .before .before .before .pre .0)
