@@ -37,7 +37,6 @@
  *    8   spans or sets are too short; the output is shorter than the file     0                                  shx_match; shx_write_table
  *    9   a symbol of the pattern is not near enough to the one it faces       the first such node's index        shx_match
  *   10   no one term is near enough to all that faces some variable           the least such variable's number   shx_match
- *   11   more positions than the heading has nodes (this never happens)       0                                  shx_match
  *   14   no symbol has that number, or no pair that index                     0                                  shx_arity; shx_pair
  *
  * The place of a fault in a list of nodes: 1024 where the list has more nodes than that; otherwise the first index at which the term had already
@@ -117,7 +116,7 @@ uint8_t shx_nearer(
     size_t second_len);
 
 /*
- * Every way to fill the pattern's variables so that it has at least degree `cut` with the heading. Refusals 1 to 11; 9 and 10 mean that there is
+ * Every way to fill the pattern's variables so that it has at least degree `cut` with the heading. Refusals 1 to 10; 9 and 10 mean that there is
  * none.
  *
  * Accepted: *lowest and *highest are the lowest and the highest degree that is reached, and
@@ -127,7 +126,7 @@ uint8_t shx_nearer(
  *           of word 4 * p + k / 64: SHX_HAS(sets, p, k).
  *   Choosing one symbol from each set of each variable gives all the ways, and each choice is one. Behind what is used both buffers are 0.
  *
- * Refused: *lowest and *highest are 0. 1 to 8 leave spans and sets as they were, 9 to 11 fill both with 0.
+ * Refused: *lowest and *highest are 0. 1 to 8 leave spans and sets as they were, 9 and 10 fill both with 0.
  */
 uint32_t shx_match(
     const uint8_t *table, size_t table_len, const uint16_t *pattern, size_t pattern_len, const uint16_t *heading, size_t heading_len, uint16_t cut,

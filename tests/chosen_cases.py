@@ -178,6 +178,8 @@ def rooms(cases):
         cases.match(T, [0, X, 1, X], HEADING, 701, 'refused 9 2' if enough else 'refused 8 0', spans, sets)
         cases.match(T, [0, 1, X + 31, 2, X], HEADING, 500, 'match 500 1000' if enough else 'refused 8 0', spans, sets)
         cases.match(T, HEADING, HEADING, 1000, 'match 1000 1000' if enough else 'refused 8 0', spans, sets)
+        cases.match(T, [X], HEADING, 500, 'match 500 1000' if enough else 'refused 8 0', spans, sets)   # as many positions as nodes
+        cases.match(T, [0, X + 1, X], HEADING, 500, 'match 500 1000' if enough else 'refused 8 0', spans, sets)
 
 
 def order(cases):

@@ -1,8 +1,7 @@
 """Questions that the program refuses, for every number that it can print and every kind of place; each with its answer.
 
 A group adds its questions to the collector that it is given. The program never prints 8, as its buffers are long enough for any heading;
-nor 13 and 14, which other calls give; nor 11, which holds for no question: the subterms that the variables face first do not overlap, so
-that their nodes are no more than the heading's.
+nor 14, which another call gives.
 """
 from itertools import product
 

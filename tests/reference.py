@@ -270,8 +270,7 @@ def match(data, pattern, heading, cut, spans_room=64, sets_room=None):
     formless = [v for v, found in sets.items() if found is None]
     if formless:
         raise Refused(10, min(formless))
-    if sum(map(len, sets.values())) > len(heading):
-        raise Refused(11, 0)
+    assert sum(map(len, sets.values())) <= len(heading)
     worst = [table.degree(f, g) for _, f, g in symbols]
     best = list(worst)
     for v, positions in sets.items():

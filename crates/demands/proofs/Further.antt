@@ -20,6 +20,7 @@ use Rattle.meaning.proofs.Matched.{Ready, ready}
 use Rattle.meaning.proofs.Reasons.{reasons}
 use Rattle.meaning.proofs.Sentences.{sentences}
 use Rattle.meaning.proofs.Spans.{answered-none, packed-in-order}
+use Rattle.meaning.proofs.NoOverlap.{no-overlap}
 use Rattle.demands.specs.Further.{MatchSays, Further}
 use Rattle.demands.proofs.Meant.{meant}
 use Rattle.demands.proofs.Paired.{lowest-paired, higher-handed}
@@ -41,6 +42,7 @@ says table pattern heading cut spans sets a p wp h wh =
       reasons = reasons table pattern heading cut spans sets a;
       sets-and-degrees = sentences table pattern heading cut spans sets a;
       packed = λ d e. packed-in-order table pattern heading cut spans sets (answered-none table pattern heading cut spans sets d e);
+      no-overlap = no-overlap table pattern heading cut spans sets a;
     })
 
 -- THEOREM

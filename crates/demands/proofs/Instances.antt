@@ -1,5 +1,5 @@
 -- No statement rests on a hypothesis that cannot be met: here each is met, by table T of the examples and what the listing asks of it, and by
--- computing. What cannot be met is said to be so: 11 is never given (`Reasons.never-eleven`).
+-- computing.
 use mathlib.Core.Path.{_≡_, refl}
 use mathlib.Core.List.{List, [], _∷_}
 use mathlib.Core.Bool.{true, false}
@@ -16,7 +16,7 @@ use Rattle.theory.specs.Read.{walk, several}
 use Rattle.theory.specs.Decode.{patternOf, termOf, parse, parseRow}
 use Rattle.meaning.specs.Limits.{variableCount, spanWidth}
 use Rattle.meaning.specs.File.{symbolCount, pairCount, aritiesIn, pairsIn, tableIn, fileOf}
-use Rattle.meaning.specs.Refusals.{first, Given, row1-short, row1-offsets, row2, row3, row4, row5, row6, row7, row8, row8-output, row9, row10, row11, tableRows, SoundFile}
+use Rattle.meaning.specs.Refusals.{first, Given, row1-short, row1-offsets, row2, row3, row4, row5, row6, row7, row8, row8-output, row9, row10, tableRows, SoundFile}
 use Rattle.meaning.specs.Packing.{packedCount, packedSpans}
 use Rattle.meaning.specs.Calls.{refused, gives, degreeRows, headingDegree, subtermRows, nearerRows, degrees, zeros, facesIn, inputRows, searchRows, matchRows, matched, laterSpans, writerRows, written, laterOutput}
 use Rattle.meaning.specs.Demands.{WritesTerm, WritesPattern, Accepted}
@@ -41,7 +41,7 @@ met1 = (first-given (tableRows []) 1 0 refl, first-given (subtermRows [] []) 1 0
 pub met2 : (first (degreeRows T (1 ∷ 5 ∷ []) (4 ∷ 7 ∷ [])) ≡ none) × asked 500 × asked 701
     × (matched T p h 701 (zeros 64) (zeros 20) ≡ refused 10 0) × (matched T p h 500 (zeros 64) (zeros 20) ≡ gives (degrees 500 700))
 unfolding
-    degreeRows matched matchRows inputRows searchRows facesIn packedCount tableRows row1-short row1-offsets row2 row3 row4 row5 row6 row7 row8 row9 row10 row11 tableIn aritiesIn pairsIn
+    degreeRows matched matchRows inputRows searchRows facesIn packedCount tableRows row1-short row1-offsets row2 row3 row4 row5 row6 row7 row8 row9 row10 tableIn aritiesIn pairsIn
     patternOf termOf parse parseRow walk several
 met2 = (refl, refl, refl, refl, refl)
 
@@ -49,7 +49,7 @@ met2 = (refl, refl, refl, refl, refl)
 pub met3 : (500 ≤ 600) × asked 500 × asked 600
     × (matched T p h 600 (zeros 64) (zeros 20) ≡ gives (degrees 600 700)) × (matched T p h 500 (zeros 64) (zeros 20) ≡ gives (degrees 500 700)) × (600 ≤ 700)
 unfolding
-    matched matchRows inputRows searchRows facesIn packedCount tableRows row1-short row1-offsets row2 row3 row4 row5 row6 row7 row8 row9 row10 row11 tableIn aritiesIn pairsIn
+    matched matchRows inputRows searchRows facesIn packedCount tableRows row1-short row1-offsets row2 row3 row4 row5 row6 row7 row8 row9 row10 tableIn aritiesIn pairsIn
     patternOf termOf parse parseRow walk several
 met3 = (lit≤ tt, refl, refl, refl, refl, lit≤ tt)
 
@@ -84,7 +84,7 @@ met-headings = (refl, refl, refl, lit< tt, refl, refl, refl)
 pub met-match : WritesPattern (tableIn T) p P × WritesTerm (tableIn T) h H × (stands 0 P ≡ true) × (stands 31 P ≡ false) × (31 < variableCount)
     × (matched T (1 ∷ 32768 ∷ []) (2 ∷ 6 ∷ []) 501 (zeros 64) (zeros 8) ≡ refused 9 0)
 unfolding
-    matched matchRows inputRows searchRows facesIn packedCount tableRows row1-short row1-offsets row2 row3 row4 row5 row6 row7 row8 row9 row10 row11 tableIn aritiesIn pairsIn
+    matched matchRows inputRows searchRows facesIn packedCount tableRows row1-short row1-offsets row2 row3 row4 row5 row6 row7 row8 row9 row10 tableIn aritiesIn pairsIn
     patternOf termOf parse parseRow walk several
 met-match = (writes-P, writes-H, refl, refl, lit< tt, refl)
 
@@ -92,6 +92,6 @@ met-match = (writes-P, writes-H, refl, refl, lit< tt, refl)
 pub met-ground : ((v : ℕ) → stands v (sym 5 ∅ₚ) ≡ false) × (matched T (5 ∷ []) (7 ∷ []) 700 (zeros 64) (zeros 4) ≡ gives (degrees 700 700))
     × ((v position : ℕ) → InSpan (laterSpans T (5 ∷ []) (7 ∷ []) 700 (zeros 64) (zeros 4)) v position → ⊥)
 unfolding
-    matched laterSpans matchRows inputRows searchRows facesIn packedCount packedSpans tableRows row1-short row1-offsets row2 row3 row4 row5 row6 row7 row8 row9 row10 row11 tableIn aritiesIn
+    matched laterSpans matchRows inputRows searchRows facesIn packedCount packedSpans tableRows row1-short row1-offsets row2 row3 row4 row5 row6 row7 row8 row9 row10 tableIn aritiesIn
     pairsIn patternOf termOf parse parseRow walk several
 met-ground = ((λ v. refl), refl, λ v position i. omega (arith, i .1, getD-zeros 64 (spanWidth * v), getD-zeros 64 (spanWidth * v + 1)))

@@ -16,7 +16,7 @@ use Rattle.theory.specs.Read.{walk, several}
 use Rattle.theory.specs.Decode.{patternOf, termOf, parse, parseRow}
 use Rattle.meaning.specs.Limits.{spanWidth}
 use Rattle.meaning.specs.File.{aritiesIn, pairsIn, tableIn}
-use Rattle.meaning.specs.Refusals.{row1-short, row1-offsets, row2, row3, row4, row5, row6, row7, row8, row9, row10, row11, tableRows}
+use Rattle.meaning.specs.Refusals.{row1-short, row1-offsets, row2, row3, row4, row5, row6, row7, row8, row9, row10, tableRows}
 use Rattle.meaning.specs.Packing.{packedCount, packedSpans}
 use Rattle.meaning.specs.Calls.{Answer, refused, gives, Degrees, degrees, Matched, zeros, facesIn, inputRows, searchRows, matchRows, matched, laterSpans, matchCall}
 use Rattle.meaning.specs.Buffers.{firstPosition, positionCount, holds, DrawnFrom}
@@ -180,7 +180,7 @@ absent-meets = (record { degree = demand2 .degree; match = of-match }, record { 
 -- at the listing's question it has counted 3 for variable 31
 counted : (absent T p h 500 (zeros 64) (zeros 20) .answer ≡ gives (degrees 500 700)) × (positionCount (absent T p h 500 (zeros 64) (zeros 20) .spans) 31 ≡ 3)
 unfolding
-    matched laterSpans matchRows inputRows searchRows facesIn packedCount packedSpans tableRows row1-short row1-offsets row2 row3 row4 row5 row6 row7 row8 row9 row10 row11 tableIn aritiesIn pairsIn patternOf
+    matched laterSpans matchRows inputRows searchRows facesIn packedCount packedSpans tableRows row1-short row1-offsets row2 row3 row4 row5 row6 row7 row8 row9 row10 tableIn aritiesIn pairsIn patternOf
     termOf parse parseRow walk several
 counted = (refl, refl)
 

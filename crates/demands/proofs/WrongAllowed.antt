@@ -16,7 +16,7 @@ use Rattle.theory.specs.Read.{walk, several}
 use Rattle.theory.specs.Decode.{patternOf, termOf, parse, parseRow}
 use Rattle.theory.proofs.Lemmas.{every-at}
 use Rattle.meaning.specs.File.{aritiesIn, pairsIn, tableIn}
-use Rattle.meaning.specs.Refusals.{row1-short, row1-offsets, row2, row3, row4, row5, row6, row7, row8, row9, row10, row11, tableRows}
+use Rattle.meaning.specs.Refusals.{row1-short, row1-offsets, row2, row3, row4, row5, row6, row7, row8, row9, row10, tableRows}
 use Rattle.meaning.specs.Packing.{packedCount, packedSpans, packedSets}
 use Rattle.meaning.specs.Calls.{Matched, zeros, facesIn, inputRows, searchRows, matchRows, matched, laterSpans, laterSets, matchCall}
 use Rattle.meaning.specs.Buffers.{firstPosition, positionCount, holds, DrawnFrom}
@@ -31,7 +31,7 @@ right = gave (1 ∷ 1 ∷ 0 ∷ 1 ∷ []) (224 ∷ 0 ∷ 0 ∷ 0 ∷ 224 ∷ 0 �
 
 is-right : matchCall T pattern heading 500 (zeros 64) (zeros 12) ≡ right
 unfolding
-    matched laterSpans laterSets matchRows inputRows searchRows facesIn packedCount packedSpans packedSets tableRows row1-short row1-offsets row2 row3 row4 row5 row6 row7 row8 row9 row10 row11 tableIn aritiesIn pairsIn
+    matched laterSpans laterSets matchRows inputRows searchRows facesIn packedCount packedSpans packedSets tableRows row1-short row1-offsets row2 row3 row4 row5 row6 row7 row8 row9 row10 tableIn aritiesIn pairsIn
     patternOf termOf parse parseRow walk several
 is-right = refl
 

@@ -1,5 +1,5 @@
 -- Demand 1: for everything that can be lent, each call is refused exactly by the first of its rows that holds, at that row's place; a refused match
--- returns no degrees, and what is left in lent memory is fixed (`Leaves`: both buffers as they were by 1 to 8, zeros by 9 to 11, and zeros
+-- returns no degrees, and what is left in lent memory is fixed (`Leaves`: both buffers as they were by 1 to 8, zeros by 9 and 10, and zeros
 -- wherever an answered match packs nothing).
 use mathlib.Core.Path.{_≡_}
 use mathlib.Core.Logic.{_↔_, _⊎_}

@@ -12,7 +12,7 @@ use Rattle.meaning.specs.Calls.{Answer, gives, aye, Degrees, degrees, Matched}
 use Rattle.meaning.specs.Demands.{WritesTerm, WritesPattern, Accepted}
 use Rattle.meaning.specs.Tables.{TableFile, SymbolDegrees, ReadBack, RoundTrip}
 use Rattle.meaning.specs.Parts.{TermLists, Subterms, Nearest}
-use Rattle.meaning.specs.Matching.{Reasons, SetsAndDegrees, PackedInOrder}
+use Rattle.meaning.specs.Matching.{Reasons, SetsAndDegrees, PackedInOrder, NoOverlap}
 use Rattle.demands.specs.Program.{Program, handedBack}
 
 -- ---- headings, by what the program itself says of symbols and of headings
@@ -34,6 +34,7 @@ pub record MatchSays (T : Table) (cut : ℕ) (p : Pattern) (h : Term) (pattern :
   pub reasons : Reasons T cut p h pattern r
   pub sets-and-degrees : (low high : ℕ) → r .answer ≡ gives (degrees low high) → SetsAndDegrees T cut p h r low high
   pub packed : (d : Degrees) → r .answer ≡ gives d → PackedInOrder p r
+  pub no-overlap : NoOverlap p h r
 
 pub record Further (P : Program) : Type 0 where
   -- tables

@@ -1,5 +1,5 @@
--- How a search that was accepted ends, in the steps that code takes: by a clash, by a variable that has no form, by too many positions, or with
--- what is packed. Each is the first of the meaning's rows 9 to 11 that holds, or none of them does.
+-- How a search that was accepted ends, in the steps that code takes: by a clash, by a variable that has no form, or with what is packed. Each is
+-- the first of the meaning's rows 9 and 10 that holds, or none of them does.
 use mathlib.Core.Path.{_≡_, refl, sym as inv, ap, ap₂, _∙_}
 use mathlib.Core.List.{List, [], _∷_, _++_}
 use mathlib.Core.Bool.{Bool, true, false, cond}
@@ -9,7 +9,7 @@ use native.Mathlib.Omega.{arith}
 use lib.Dec.{ltb}
 use lib.ListN.{length, take, drop}
 use lib.Seq.{take-at}
-use borrow.Author.Tests.{ltb-true, ltb-false, lt-ltb, le-ltb}
+use borrow.Author.Tests.{ltb-true, ltb-false}
 use Rattle.theory.specs.Table.{Table}
 use Rattle.theory.specs.Faces.{Face}
 use Rattle.theory.specs.Match.{clash, lowestOf, highestOf}
@@ -20,7 +20,7 @@ use Rattle.theory.proofs.Along.{Readable}
 use Rattle.theory.proofs.Place.{clash-place}
 use Rattle.meaning.specs.Limits.{setWords, variableCount, spanWidth}
 use Rattle.meaning.specs.File.{tableIn}
-use Rattle.meaning.specs.Refusals.{SoundFile, tableRows, row5, row6, row7, row8, row9, row10, row11}
+use Rattle.meaning.specs.Refusals.{SoundFile, tableRows, row5, row6, row7, row8, row9, row10}
 use Rattle.meaning.specs.Packing.{order, packedCount, packedSpans, packedSets}
 use Rattle.meaning.specs.Calls.{Answer, refused, gives, Degrees, degrees, Matched, zeros, facesIn, inputRows, searchRows, matchCall}
 use Rattle.meaning.specs.Demands.{Accepted}
@@ -33,8 +33,9 @@ use Rattle.meaning.proofs.Parts.{is-term}
 use Rattle.meaning.proofs.Compose.{by-search, by-answer}
 use Rattle.meaning.proofs.Lacking.{Unclashed, unclashed, lacking-none, lacking-just, worst-top}
 use Rattle.meaning.proofs.Lengths.{rooms8, packed-words}
+use Rattle.meaning.proofs.NoOverlap.{packed-few}
 use Rattle.meaning.proofs.Over.{over-front}
-use Rattle.refusal.specs.declared.Refusal.the-variants.{NoForm, Overfull}
+use Rattle.refusal.specs.declared.Refusal.the-variants.{NoForm}
 use Rattle.packing.specs.declared.Search.{Search}
 use Rattle.facing.specs.Faced.{ClearBy}
 use Rattle.packing.specs.Pack.{Packable, PackedAll}
@@ -119,7 +120,7 @@ module _ (table pattern heading : List ℕ) (cut : ℕ) (spans sets : List ℕ) 
     module _ (i : ℕ) (e : clash T cut fs ≡ just i) where
       -- LAW: refusal 9
       pub clash-ends : RefusedBy 9 i
-      unfolding searchRows facesIn row9 row10 row11
+      unfolding searchRows facesIn row9 row10
       clash-ends = by-search table pattern heading cut spans sets 9 i a (rw e)
 
       -- LAW: a small place
@@ -138,30 +139,29 @@ module _ (table pattern heading : List ℕ) (cut : ℕ) (spans sets : List ℕ) 
       unfolding facesIn
       clear = unclashed lists cut (fit .positive) e
 
+      -- LAW: what is packed is no more than the heading's nodes
+      pub fits : packedCount fs ≤ length heading
+      unfolding facesIn
+      fits = packed-few lists cut (fit .positive) e
+
       -- LAW: refusal 10
       pub form-ends : bad < variableCount → RefusedBy 10 bad
-      unfolding searchRows facesIn row9 row10 row11
+      unfolding searchRows facesIn row9 row10
       form-ends l = by-search table pattern heading cut spans sets 10 bad a (rw (e, lacking-just clear l))
 
       module _ (l : variableCount ≤ bad) where
         all-formed : bad ≡ variableCount
         all-formed = omega (arith, worst-top (unformed T cut fs) (order fs))
 
-        -- LAW: refusal 11
-        pub room-ends : length heading < packedCount fs → RefusedBy 11 0
-        unfolding searchRows facesIn row9 row10 row11
-        room-ends m = by-search table pattern heading cut spans sets 11 0 a (rw (e, lacking-none clear all-formed, lt-ltb _ _ m))
-
         -- LAW: an answer
-        pub answer-ends : packedCount fs ≤ length heading
-            → matchCall table pattern heading cut spans sets
+        pub answer-ends : matchCall table pattern heading cut spans sets
             ≡ record {
               answer = gives (degrees (lowestOf T cut fs) (highestOf T cut fs));
               spans = packedSpans fs ++ zeros (length spans - length (packedSpans fs));
               sets = packedSets T cut fs ++ zeros (length sets - length (packedSets T cut fs));
             }
-        unfolding searchRows facesIn row9 row10 row11
-        answer-ends m = by-answer table pattern heading cut spans sets a (rw (e, lacking-none clear all-formed, le-ltb _ _ m))
+        unfolding searchRows facesIn row9 row10
+        answer-ends = by-answer table pattern heading cut spans sets a (rw (e, lacking-none clear all-formed))
 
       -- ---- what code makes of the variables that it packed
 
@@ -178,22 +178,19 @@ module _ (table pattern heading : List ℕ) (cut : ℕ) (spans sets : List ℕ) 
 
         -- LAW: the search's end
         pub settles : length mid-spans ≡ length spans → length mid-sets ≡ length sets
-            → outcomeOf (length heading) found mid-spans mid-sets ≡ matchCall table pattern heading cut spans sets
+            → outcomeOf found mid-spans mid-sets ≡ matchCall table pattern heading cut spans sets
         unfolding outcomeOf
-        settles p q = go (ltb (found .lacking) variableCount) refl (ltb (length heading) (found .packed)) refl
+        settles p q = go (ltb (found .lacking) variableCount) refl
           where
-            go : (b : Bool) → ltb (found .lacking) variableCount ≡ b → (d : Bool) → ltb (length heading) (found .packed) ≡ d
-                → cond b (emptied (NoForm (found .lacking)) mid-spans mid-sets) (cond d (emptied Overfull mid-spans mid-sets) (kept found mid-spans mid-sets))
+            go : (b : Bool) → ltb (found .lacking) variableCount ≡ b
+                → cond b (emptied (NoForm (found .lacking)) mid-spans mid-sets) (kept found mid-spans mid-sets)
                 ≡ matchCall table pattern heading cut spans sets
-            go true x d y =
+            go true x =
                 same-matched (ap (refused 10) (r .lacking)) (ap zeros p) (ap zeros q)
                 ∙ inv (form-ends (omega (arith, ltb-true (found .lacking) variableCount x, r .lacking)))
-            go false x true y =
-                same-matched refl (ap zeros p) (ap zeros q)
-                ∙ inv (room-ends (formed x) (omega (arith, ltb-true (length heading) (found .packed) y, r .packed)))
-            go false x false y =
+            go false x =
                 same-matched (ap₂ (λ low high. gives (degrees low high)) (r .lowest) (r .highest)) spans-kept (ap₂ (λ l n. l ++ zeros n) words-kept left)
-                ∙ inv (answer-ends (formed x) (omega (arith, ltb-false (length heading) (found .packed) y, r .packed)))
+                ∙ inv (answer-ends (formed x))
               where
                 left : length mid-sets - setWords * found .packed ≡ length sets - length (packedSets T cut fs)
                 left = omega (arith, packed-words T cut fs, r .packed, q)

@@ -8,7 +8,7 @@ use Rattle.meaning.specs.Limits.{setWords, variableCount}
 use Rattle.meaning.specs.Calls.{Answer, gives, Degrees, degrees, Matched, zeros}
 use Rattle.refusal.specs.Told.{refusedBy}
 use Rattle.refusal.specs.declared.Refusal.{Refusal}
-use Rattle.refusal.specs.declared.Refusal.the-variants.{NoForm, Overfull}
+use Rattle.refusal.specs.declared.Refusal.the-variants.{NoForm}
 use Rattle.packing.specs.declared.Search.{Search}
 use Rattle.matching.specs.declared.search.Outcome.{Outcome}
 use Rattle.matching.specs.declared.search.Outcome.the-variants.{Match, Refused}
@@ -34,8 +34,6 @@ kept found spans sets =
       sets = take (setWords * found .packed) sets ++ zeros (length sets - setWords * found .packed);
     }
 
--- What comes of packed variables, for a heading of so many nodes.
-unfoldable pub outcomeOf : ℕ → Search → List ℕ → List ℕ → Matched
-outcomeOf nodes found spans sets =
-    cond (ltb (found .lacking) variableCount) (emptied (NoForm (found .lacking)) spans sets)
-    (cond (ltb nodes (found .packed)) (emptied Overfull spans sets) (kept found spans sets))
+-- What comes of packed variables.
+unfoldable pub outcomeOf : Search → List ℕ → List ℕ → Matched
+outcomeOf found spans sets = cond (ltb (found .lacking) variableCount) (emptied (NoForm (found .lacking)) spans sets) (kept found spans sets)

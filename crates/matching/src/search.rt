@@ -34,16 +34,13 @@ fn refuse(why: Refusal, spans: &mut [u16], sets: &mut [u64]) -> Outcome
     Outcome::Refused(why)
 }
 
-// What comes of variables that are packed: a match, if each has a form and the positions are no more than the heading's nodes.
-fn settle(nodes: usize, found: Search, spans: &mut [u16], sets: &mut [u64]) -> Outcome
-    requires { ⌜ setWords * nodes ≤ length (now sets) ⌝ }
-    ensures { λ r. ⌜ resultOf r (now (spans .exit)) (now (sets .exit)) ≡ outcomeOf nodes found (now (spans .entry)) (now (sets .entry)) ⌝ }
+// What comes of variables that are packed: a match, if each has a form.
+fn settle(found: Search, spans: &mut [u16], sets: &mut [u64]) -> Outcome
+    requires { ⌜ setWords * found .packed ≤ length (now sets) ⌝ }
+    ensures { λ r. ⌜ resultOf r (now (spans .exit)) (now (sets .exit)) ≡ outcomeOf found (now (spans .entry)) (now (sets .entry)) ⌝ }
 {
     if found.lacking < 32 {
         return refuse(Refusal::NoForm(found.lacking), spans, sets);
-    }
-    if nodes < found.packed {
-        return refuse(Refusal::Overfull, spans, sets);
     }
     clear_words(sets, SymbolSet::WORDS * found.packed);
     Outcome::Match(found.lowest, found.highest)
@@ -85,7 +82,7 @@ fn search_variables(
         spans,
         sets,
     );
-    settle(heading.len(), found, spans, sets)
+    settle(found, spans, sets)
 }
 
 // The match. What faces the pattern's nodes, and then one variable, is noted in the four lists that are lent for it, and `near` for the near

@@ -11,7 +11,7 @@ use native.Mathlib.Decide.{decLt}
 use mathlib.Core.Bool.{Bool, true, false}
 use Rattle.theory.specs.Least.{leastBelow, All}
 use lib.ListN.{length, getD}
-use Rattle.meaning.specs.Refusals.{Refusal, refusal, Row, row, rowPlace, first, Given, row1-short, row1-offsets, row2, row3, row4, row5, row6, row7, row8, row8-output, row9, row10, row11, row14, tableRows}
+use Rattle.meaning.specs.Refusals.{Refusal, refusal, Row, row, rowPlace, first, Given, row1-short, row1-offsets, row2, row3, row4, row5, row6, row7, row8, row8-output, row9, row10, row14, tableRows}
 use Rattle.meaning.specs.Calls.{refused, gives, unless, degreeRows, subtermRows, inputRows, searchRows, matchRows, writerRows, backRows}
 use Rattle.meaning.specs.Demands.{Exactly, Order}
 
@@ -73,7 +73,7 @@ module _ {A : Type 0} where
 
 -- THEOREM: the rows of each call stand in their order, whatever is lent
 pub order : Order
-unfolding degreeRows subtermRows matchRows inputRows searchRows writerRows backRows tableRows row1-short row1-offsets row2 row3 row4 row5 row6 row7 row8 row8-output row9 row10 row11 row14
+unfolding degreeRows subtermRows matchRows inputRows searchRows writerRows backRows tableRows row1-short row1-offsets row2 row3 row4 row5 row6 row7 row8 row8-output row9 row10 row14
 order =
     record {
       is-table = λ table. refl;

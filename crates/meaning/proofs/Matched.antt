@@ -1,16 +1,14 @@
 -- Demand 2 of the match: it says 9 or 10 exactly if no matcher exists; otherwise the matchers are exactly what is drawn from the buffers. The
--- rows of the search are the theory's verdict on the two trees, 11 is never given, and the buffers hold the sets of what faces each variable.
+-- rows of the search are the theory's verdict on the two trees, and the buffers hold the sets of what faces each variable.
 use mathlib.Core.Path.{_≡_, refl, sym as inv, ap, _∙_}
 use mathlib.Core.Logic.{_↔_, inl, inr, ⊎-elim}
 use mathlib.Core.List.{List, [], _∷_, _++_}
-use mathlib.Core.Bool.{true, false}
+use mathlib.Core.Bool.{true}
 use mathlib.Core.Option.{Option, none, some as just, Option·some-ne-none}
 use Prim.Native.Nat.{ℕ, _+_, _-_, _*_, _≤_, _<_}
 use native.Mathlib.Omega.{arith}
-use lib.Dec.{ltb}
 use lib.ListN.{length, getD}
-use borrow.Author.Tests.{le-ltb}
-use Rattle.theory.specs.Tree.{Term, Pattern, enc, stands}
+use Rattle.theory.specs.Tree.{Term, Pattern, stands}
 use Rattle.theory.specs.Table.{Table, Lawful, Over, Overₚ}
 use Rattle.theory.specs.Faces.{Face, faces, facing}
 use Rattle.theory.specs.Match.{size, clash, lowestOf, highestOf, Matches, Drawn, DrawnAll}
@@ -25,8 +23,8 @@ use Rattle.theory.proofs.Theorems.{answered}
 use Rattle.theory.proofs.Verdict.{verdict-means, stands-small}
 use Rattle.meaning.specs.Limits.{mostSymbols, variableCount, spanWidth}
 use Rattle.meaning.specs.File.{tableIn}
-use Rattle.meaning.specs.Refusals.{Refusal, refusal, row, first, at0, outside, tableRows, row5, row6, row7, row8, row9, row10, row11}
-use Rattle.meaning.specs.Packing.{order, among, packedCount, packedSpans, packedSets, setsOf}
+use Rattle.meaning.specs.Refusals.{Refusal, refusal, row, first, outside, tableRows, row5, row6, row7, row8, row9, row10}
+use Rattle.meaning.specs.Packing.{order, among, packedSpans, packedSets, setsOf}
 use Rattle.meaning.specs.Calls.{Answer, refused, unless, Degrees, degrees, zeros, facesIn, inputRows, searchRows, matchRows, matched, laterSpans, laterSets, matchCall}
 use Rattle.meaning.specs.Buffers.{holds, DrawnFrom}
 use Rattle.meaning.specs.Demands.{WritesTerm, WritesPattern, Only, Accepted, NoMatch, Found, Decides, Demand2}
@@ -34,7 +32,7 @@ use Rattle.meaning.proofs.First.{Silent, all-silent, append-none, first
 use Rattle.meaning.proofs.Sound.{at0-none, inside-of, sound}
 use Rattle.meaning.proofs.Trees.{whole6, whole7, one-pattern, one-term}
 use Rattle.meaning.proofs.Bits.{holds-at}
-use Rattle.meaning.proofs.Packing.{order-among, span-at, room}
+use Rattle.meaning.proofs.Packing.{order-among, span-at}
 use Rattle.meaning.proofs.Drawn.{Packed, drawn-from}
 
 -- ---- what a call that is not refused by 1 to 8 has passed
@@ -92,9 +90,9 @@ module _ (o : Option Refusal) (N M : Type 0) where
 abbrev pub MatchMeans : Table → ℕ → Pattern → Term → Type 0
 MatchMeans T c p h = Matches T c p h × MeansMatch T c p h (lowestOf T c (faces p h)) (highestOf T c (faces p h))
 
-module _ (T : Table) (L : Lawful T) (c : ℕ) (pos : 0 < c) (cut : c ≤ 1000) (p : Pattern) (h : Term) (op : Fine T true p) (oh : Over T h) (heading : List ℕ) (is : heading ≡ enc h) where
-  pub search-ends : Ending (first (row9 T c p h ∷ row10 T c p h ∷ row11 p h heading ∷ [])) (NoMatcher T c p h) (MatchMeans T c p h)
-  unfolding row9 row10 row11 verdict
+module _ (T : Table) (L : Lawful T) (c : ℕ) (pos : 0 < c) (cut : c ≤ 1000) (p : Pattern) (h : Term) (op : Fine T true p) (oh : Over T h) where
+  pub search-ends : Ending (first (row9 T c p h ∷ row10 T c p h ∷ [])) (NoMatcher T c p h) (MatchMeans T c p h)
+  unfolding row9 row10 verdict
   search-ends = go (clash T c (faces p h)) refl (leastBelow variableCount (lacking T c p h)) refl (verdict-means T L p h op oh c pos cut)
     where
       over-p : Overₚ T p
@@ -106,17 +104,12 @@ module _ (T : Table) (L : Lawful T) (c : ℕ) (pos : 0 < c) (cut : c ≤ 1000) (
       high : ℕ
       high = highestOf T c (faces p h)
 
-      -- 11 is not given
-      no11 : clash T c (faces p h) ≡ none → ltb (length heading) (packedCount (faces p h)) ≡ false
-      no11 e = le-ltb (length heading) (packedCount (faces p h)) (omega (arith, ap length is, room T L c pos p h over-p oh e))
-
       go : (o : Option ℕ) → clash T c (faces p h) ≡ o → (q : Option ℕ) → leastBelow variableCount (lacking T c p h) ≡ q → Means T c p h (settled o q low high)
-          → Ending (first (row 9 o ∷ row 10 q ∷ row 11 (at0 (ltb (length heading) (packedCount (faces p h)))) ∷ [])) (NoMatcher T c p h) (MatchMeans T c p h)
+          → Ending (first (row 9 o ∷ row 10 q ∷ [])) (NoMatcher T c p h) (MatchMeans T c p h)
       go (just i) e q f m = by9 i refl (m .1)
       go none e (just v) f m = by10 v refl (m .no-matcher)
       go none e none f m =
-          fine (ap (λ b. first (row 11 (at0 b) ∷ [])) (no11 e))
-          (answered T L p h over-p oh c pos cut .1 (m .lowest .reached .0, m .lowest .reached .1), m)
+          fine refl (answered T L p h over-p oh c pos cut .1 (m .lowest .reached .0, m .lowest .reached .1), m)
 
 -- ---- the buffers of an answered match
 
@@ -154,7 +147,7 @@ module _ (table pattern heading : List ℕ) (cut : ℕ) (spans sets : List ℕ) 
   unfolding matchRows searchRows
   match-ends a r =
       rw (first-append (inputRows table pattern heading cut spans sets) (searchRows table pattern heading cut) a)
-      (search-ends T (r .lawful) cut (r .positive) (r .cut-top) p h (r .pattern-is .holds .fine) (r .heading-is .holds .over) heading (r .heading-is .holds .is))
+      (search-ends T (r .lawful) cut (r .positive) (r .cut-top) p h (r .pattern-is .holds .fine) (r .heading-is .holds .over))
 
   -- the buffers, where no refusal is given
   pub spans-are : first (matchRows table pattern heading cut spans sets) ≡ none

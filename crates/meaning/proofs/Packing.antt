@@ -1,25 +1,21 @@
--- Packing: each variable's sets stand behind those of the variables before it, so one reads there what was packed; and the heading has room for
--- all, since each is counted once, by the first subterm that it faces.
+-- Packing: each variable's sets stand behind those of the variables before it, so one reads there what was packed.
 use mathlib.Core.Path.{_≡_, refl, sym as inv, ap, _∙_, subst}
 use mathlib.Core.List.{List, [], _∷_, _++_}
 use mathlib.Core.Bool.{Bool, true, false, cond, false≢true}
-use mathlib.Core.Option.{none}
-use Prim.Native.Nat.{ℕ, zero, suc, _+_, _*_, _≤_, _<_}
+use Prim.Native.Nat.{ℕ, zero, suc, _+_, _*_, _<_}
 use native.Mathlib.Nat.{not-suc-le-zero, mul-le-mul-left}
 use native.Mathlib.Omega.{arith}
 use lib.Dec.{eqb}
 use lib.Seq.{getD-append-add}
 use lib.ListN.{length, getD, length-append, List·getD-append}
-use borrow.Author.Tests.{eqb-true, eqb-false, eq-eqb, ne-eqb}
-use Rattle.theory.specs.Tree.{Term, Pattern}
-use Rattle.theory.specs.Table.{Table, Lawful, Over, Overₚ}
-use Rattle.theory.specs.Faces.{Face, meets, binds, faces, facing, keep}
-use Rattle.theory.specs.Match.{size, inSet, clash}
+use borrow.Author.Tests.{eqb-true, eqb-false, ne-eqb}
+use Rattle.theory.specs.Tree.{Term}
+use Rattle.theory.specs.Table.{Table}
+use Rattle.theory.specs.Faces.{Face, meets, binds, facing, keep}
+use Rattle.theory.specs.Match.{inSet}
 use Rattle.theory.proofs.Lemmas.{last-or-below}
-use Rattle.theory.proofs.Matchers.{none-clear}
-use Rattle.theory.proofs.Taken.{taken, taken-all}
 use Rattle.meaning.specs.Limits.{variableCount, spanWidth}
-use Rattle.meaning.specs.Packing.{through, variables, without, firsts, order, countOf, sum, packedCount, startIn, among, spanOf, packedSpans, setsOf}
+use Rattle.meaning.specs.Packing.{through, variables, without, firsts, order, countOf, startIn, among, spanOf, packedSpans, setsOf}
 
 -- ---- lists of equal width, one after the other
 
@@ -161,28 +157,3 @@ module _ (T : Table) (c d : ℕ) (fs : List Face) (inside : (ts : List Term) (k 
   -- LAW: if each set at d is part of the set at c, so it is at each position packed
   pub sets-inside : (vs : List ℕ) (p s : ℕ) → getD (setsOf T d fs vs) p (λ s. false) s ≡ true → getD (setsOf T c fs vs) p (λ s. false) s ≡ true
   sets-inside vs = within-at (setsOf T d fs vs) (setsOf T c fs vs) (sets-within vs)
-
--- ---- room
-
-sum-more : (f g : ℕ → ℕ) → (w : ℕ) → ((v : ℕ) → eqb w v ≡ false → f v ≡ g v) → (xs : List ℕ) → sum f (without w xs) ≤ sum g xs
-sum-more f g w h [] = omega arith
-sum-more f g w h (x ∷ xs) = go (eqb w x) refl (sum-more f g w h xs)
-  where
-    go : (b : Bool) → eqb w x ≡ b → sum f (without w xs) ≤ sum g xs → sum f (cond b (without w xs) (x ∷ without w xs)) ≤ g x + sum g xs
-    go true e l = omega arith
-    go false e l = omega (arith, h x e)
-
-count-other : (w : ℕ) (t : Term) (fs : List Face) (v : ℕ) → eqb w v ≡ false → countOf (binds w t ∷ fs) v ≡ countOf fs v
-count-other w t fs v e = rw (ne-eqb v w (λ q. eqb-false w v e (inv q)))
-
-packed-taken : (fs : List Face) → packedCount fs ≤ taken fs
-unfolding packedCount
-packed-taken [] = omega arith
-packed-taken (meets f g ∷ fs) = omega (arith, packed-taken fs)
-packed-taken (binds w t ∷ fs) =
-    let s : countOf (binds w t ∷ fs) w ≡ size t = rw (eq-eqb w w refl) in
-    omega (arith, s, sum-more (countOf (binds w t ∷ fs)) (countOf fs) w (count-other w t fs) (firsts (variables fs)), packed-taken fs)
-
--- LAW: refusal 11 is never given
-pub room : (T : Table) (L : Lawful T) (c : ℕ) → 0 < c → (p : Pattern) (h : Term) → Overₚ T p → Over T h → clash T c (faces p h) ≡ none → packedCount (faces p h) ≤ size h
-room T L c pos p h op oh e = omega (arith, packed-taken (faces p h), taken-all T L c pos p h op oh (none-clear T c (faces p h) e))

@@ -1,12 +1,10 @@
--- Why a match is refused by 9 or 10, and that it never is by 11: rows 9 and 10 are what the theory's verdict is made of, and where neither holds
--- there is room.
+-- Why a match is refused by 9 or 10: these rows are what the theory's verdict is made of.
 use mathlib.Core.Path.{_≡_, refl, sym as inv, ap, _∙_}
 use mathlib.Core.List.{List, [], _∷_}
-use mathlib.Core.Bool.{Bool, true, false}
+use mathlib.Core.Bool.{true}
 use mathlib.Core.Option.{Option, none, some as just, Option·some-ne-none}
 use Prim.Native.Nat.{ℕ}
 use native.Mathlib.Omega.{arith}
-use lib.Dec.{ltb}
 use lib.ListN.{length, getD}
 use Rattle.theory.specs.Tree.{Term, Pattern}
 use Rattle.theory.specs.Table.{Table}
@@ -21,25 +19,22 @@ use Rattle.theory.proofs.Place.{clash-place}
 use Rattle.theory.proofs.Verdict.{verdict-means}
 use Rattle.meaning.specs.Limits.{variableCount}
 use Rattle.meaning.specs.File.{tableIn}
-use Rattle.meaning.specs.Refusals.{refusal, row, first, at0, row9, row10, row11}
-use Rattle.meaning.specs.Packing.{packedCount}
+use Rattle.meaning.specs.Refusals.{refusal, row, first, row9, row10}
 use Rattle.meaning.specs.Calls.{refused, inputRows, searchRows, matchRows, matched, matchCall}
 use Rattle.meaning.specs.Demands.{Accepted}
 use Rattle.meaning.specs.Matching.{Clashes, Reasons}
 use Rattle.meaning.proofs.First.{first-append, unless-refused}
-use Rattle.meaning.proofs.Matched.{Ready, ready, Ending, by9, by10, fine, match-ends}
+use Rattle.meaning.proofs.Matched.{Ready, ready}
 
-is-nine : (o q : Option ℕ) (b : Bool) (i : ℕ) → first (row 9 o ∷ row 10 q ∷ row 11 (at0 b) ∷ []) ≡ just (refusal 9 i) → o ≡ just i
-is-nine (just j) q b i e = cc
-is-nine none (just v) b i e = let z : _≡_ {A = ℕ} 10 9 = cc in absurd (omega arith)
-is-nine none none true i e = let z : _≡_ {A = ℕ} 11 9 = cc in absurd (omega arith)
-is-nine none none false i e = absurd (Option·some-ne-none (refusal 9 i) (inv e))
+is-nine : (o q : Option ℕ) (i : ℕ) → first (row 9 o ∷ row 10 q ∷ []) ≡ just (refusal 9 i) → o ≡ just i
+is-nine (just j) q i e = cc
+is-nine none (just v) i e = let z : _≡_ {A = ℕ} 10 9 = cc in absurd (omega arith)
+is-nine none none i e = absurd (Option·some-ne-none (refusal 9 i) (inv e))
 
-is-ten : (o q : Option ℕ) (b : Bool) (v : ℕ) → first (row 9 o ∷ row 10 q ∷ row 11 (at0 b) ∷ []) ≡ just (refusal 10 v) → (o ≡ none) × (q ≡ just v)
-is-ten (just j) q b v e = let z : _≡_ {A = ℕ} 9 10 = cc in absurd (omega arith)
-is-ten none (just w) b v e = (refl, cc)
-is-ten none none true v e = let z : _≡_ {A = ℕ} 11 10 = cc in absurd (omega arith)
-is-ten none none false v e = absurd (Option·some-ne-none (refusal 10 v) (inv e))
+is-ten : (o q : Option ℕ) (v : ℕ) → first (row 9 o ∷ row 10 q ∷ []) ≡ just (refusal 10 v) → (o ≡ none) × (q ≡ just v)
+is-ten (just j) q v e = let z : _≡_ {A = ℕ} 9 10 = cc in absurd (omega arith)
+is-ten none (just w) v e = (refl, cc)
+is-ten none none v e = absurd (Option·some-ne-none (refusal 10 v) (inv e))
 
 module _ (table pattern heading : List ℕ) (cut : ℕ) (spans sets : List ℕ) (a : Accepted table pattern heading cut spans sets) where
   abbrev T : Table
@@ -56,15 +51,15 @@ module _ (table pattern heading : List ℕ) (cut : ℕ) (spans sets : List ℕ) 
 
   -- a refusal is one of the search
   searched : (n place : ℕ) → matched table pattern heading cut spans sets ≡ refused n place
-      → first (row 9 (clash T cut (faces p h)) ∷ row 10 (leastBelow variableCount (lacking T cut p h)) ∷ row 11 (at0 (ltb (length heading) (packedCount (faces p h)))) ∷ []) ≡ just (refusal n place)
-  unfolding matched matchRows searchRows row9 row10 row11
+      → first (row 9 (clash T cut (faces p h)) ∷ row 10 (leastBelow variableCount (lacking T cut p h)) ∷ []) ≡ just (refusal n place)
+  unfolding matched matchRows searchRows row9 row10
   searched n place e =
       inv (first-append (inputRows table pattern heading cut spans sets) (searchRows table pattern heading cut) a)
       ∙ unless-refused (first (matchRows table pattern heading cut spans sets)) _ n place e
 
   nine : (i : ℕ) → matched table pattern heading cut spans sets ≡ refused 9 i → Clashes T cut p h pattern i
   nine i e =
-      let c = is-nine (clash T cut (faces p h)) (leastBelow variableCount (lacking T cut p h)) (ltb (length heading) (packedCount (faces p h))) i (searched 9 i e) in
+      let c = is-nine (clash T cut (faces p h)) (leastBelow variableCount (lacking T cut p h)) i (searched 9 i e) in
       let q = clash-at T cut (faces p h) i c in
       let w = clash-place T (r .lawful) cut (r .positive) p h (fine-over T true p (r .pattern-is .holds .fine)) (r .heading-is .holds .over) i c in
       let is = r .pattern-is .holds .is in
@@ -77,20 +72,11 @@ module _ (table pattern heading : List ℕ) (cut : ℕ) (spans sets : List ℕ) 
   ten : (v : ℕ) → matched table pattern heading cut spans sets ≡ refused 10 v → MeansFormless T cut p h v
   unfolding verdict
   ten v e =
-      let c = is-ten (clash T cut (faces p h)) (leastBelow variableCount (lacking T cut p h)) (ltb (length heading) (packedCount (faces p h))) v (searched 10 v e) in
+      let c = is-ten (clash T cut (faces p h)) (leastBelow variableCount (lacking T cut p h)) v (searched 10 v e) in
       let m = verdict-means T (r .lawful) p h (r .pattern-is .holds .fine) (r .heading-is .holds .over) cut (r .positive) (r .cut-top) in
       let q : Means T cut p h (settled none (just v) (lowestOf T cut (faces p h)) (highestOf T cut (faces p h))) = rw (c .0, c .1) at m in
       q
 
-  never-eleven : (i : ℕ) → matched table pattern heading cut spans sets ≡ refused 11 i → ⊥
-  unfolding matched
-  never-eleven i e = go (match-ends table pattern heading cut spans sets a r) (unless-refused (first (matchRows table pattern heading cut spans sets)) _ 11 i e)
-    where
-      go : {N M : Type 0} → Ending (first (matchRows table pattern heading cut spans sets)) N M → first (matchRows table pattern heading cut spans sets) ≡ just (refusal 11 i) → ⊥
-      go (by9 j q n) f = let z : _≡_ {A = ℕ} 9 11 = cc in omega arith
-      go (by10 j q n) f = let z : _≡_ {A = ℕ} 10 11 = cc in omega arith
-      go (fine q m) f = Option·some-ne-none (refusal 11 i) (inv f ∙ q)
-
-  -- THEOREM: the reasons of 9 and 10; 11 is never given
+  -- THEOREM: the reasons of 9 and 10
   pub reasons : Reasons T cut p h pattern (matchCall table pattern heading cut spans sets)
-  reasons = record { nine = nine; ten = ten; never-eleven = never-eleven }
+  reasons = record { nine = nine; ten = ten }

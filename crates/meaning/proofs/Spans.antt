@@ -33,17 +33,18 @@ use Rattle.meaning.proofs.Matched.{Ready, ready, given-none, match-ends
 
 -- ---- starts by counts that agree
 
+-- LAW: what is among some is among one more
+pub among-more : (w x : ℕ) (xs : List ℕ) → among w xs ≡ true → among w (x ∷ xs) ≡ true
+among-more w x xs m = go (eqb w x)
+  where
+    go : (b : Bool) → cond b true (among w xs) ≡ true
+    go true = refl
+    go false = m
+
 start-counts : (f g : ℕ → ℕ) (v : ℕ) (ws : List ℕ) → ((w : ℕ) → among w ws ≡ true → f w ≡ g w) → startIn f v ws ≡ startIn g v ws
 start-counts f g v [] e = refl
 start-counts f g v (x ∷ xs) e =
-    ap₂ (λ a b. cond (eqb v x) 0 (a + b)) (e x (rw (eq-eqb x x refl))) (start-counts f g v xs (λ w m. e w (more w m)))
-  where
-    more : (w : ℕ) → among w xs ≡ true → cond (eqb w x) true (among w xs) ≡ true
-    more w m = go (eqb w x)
-      where
-        go : (b : Bool) → cond b true (among w xs) ≡ true
-        go true = refl
-        go false = m
+    ap₂ (λ a b. cond (eqb v x) 0 (a + b)) (e x (rw (eq-eqb x x refl))) (start-counts f g v xs (λ w m. e w (among-more w x xs m)))
 
 module _ (table pattern heading : List ℕ) (cut : ℕ) (spans sets : List ℕ) where
   abbrev T : Table

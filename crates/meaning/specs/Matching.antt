@@ -1,25 +1,25 @@
 -- What else is said of the match: why it is refused, what its sets hold, where its variables are packed, what it leaves in lent memory.
--- Statements; the proofs are in proofs/Reasons, proofs/Sentences, proofs/Spans and proofs/Lengths.
+-- Statements; the proofs are in proofs/Reasons, proofs/Sentences, proofs/Spans, proofs/NoOverlap and proofs/Lengths.
 use mathlib.Core.Path.{_≡_}
 use mathlib.Core.Logic.{_↔_}
 use mathlib.Core.List.{List, [], _∷_, _++_}
 use mathlib.Core.Bool.{true, false}
 use Prim.Native.Nat.{ℕ, _+_, _*_, _/_, _^_, _≤_, _<_}
 use lib.ListN.{length, getD}
-use Rattle.theory.specs.Tree.{Term, Pattern, var, sym, Patterns, ∅ₚ, _▸_, stands}
+use Rattle.theory.specs.Tree.{Term, Pattern, var, sym, Patterns, ∅ₚ, _▸_, enc, stands}
 use Rattle.theory.specs.Least.{All}
 use Rattle.theory.specs.Table.{Table}
-use Rattle.theory.specs.Faces.{faces, facing}
-use Rattle.theory.specs.Match.{at, ClashAt}
+use Rattle.theory.specs.Faces.{faces, facing, taken}
+use Rattle.theory.specs.Match.{size, at, ClashAt}
 use Rattle.theory.specs.Verdict.{MeansFormless}
 use Rattle.theory.specs.Pairs.{Pair}
 use Rattle.meaning.specs.Limits.{wordBits, setWords, setRoom, variableCount, spanWidth}
-use Rattle.meaning.specs.Packing.{firsts, startIn}
+use Rattle.meaning.specs.Packing.{firsts, sum, startIn}
 use Rattle.meaning.specs.Calls.{refused, gives, Degrees, zeros, Matched}
 use Rattle.meaning.specs.Buffers.{firstPosition, positionCount, holds}
 use Rattle.meaning.specs.Tables.{Wrote}
 
--- Refusals 9 to 11, of a match that is not refused by 1 to 8.
+-- Refusals 9 and 10, of a match that is not refused by 1 to 8.
 -- 9: the place is an index of the pattern's list, that of the first clash.
 pub record Clashes (T : Table) (cut : ℕ) (p : Pattern) (h : Term) (pattern : List ℕ) (i : ℕ) : Type 0 where
   pub clash : ClashAt T cut (faces p h) i
@@ -29,7 +29,6 @@ pub record Clashes (T : Table) (cut : ℕ) (p : Pattern) (h : Term) (pattern : L
 pub record Reasons (T : Table) (cut : ℕ) (p : Pattern) (h : Term) (pattern : List ℕ) (r : Matched) : Type 0 where
   pub nine : (i : ℕ) → r .answer ≡ refused 9 i → Clashes T cut p h pattern i
   pub ten : (v : ℕ) → r .answer ≡ refused 10 v → MeansFormless T cut p h v
-  pub never-eleven : (i : ℕ) → r .answer ≡ refused 11 i → ⊥
 
 -- Of a match that is answered: at each position of a variable the set has just those symbols that are near enough to the symbol at that
 -- position of every subterm that faces the variable; and how the degrees lie.
@@ -56,6 +55,12 @@ abbrev mutual
 pub record PackedInOrder (p : Pattern) (r : Matched) : Type 0 where
   pub absent : (v : ℕ) → v < variableCount → stands v p ≡ false → (firstPosition (r .spans) v ≡ 0) × (positionCount (r .spans) v ≡ 0)
   pub starts : (v : ℕ) → stands v p ≡ true → firstPosition (r .spans) v ≡ startIn (positionCount (r .spans)) v (firsts (standing p))
+
+-- Unless a symbol clashes, what faces the pattern's nodes is the heading, one behind the other: subterms that face different nodes never overlap. So
+-- what an answered match has packed fits: its variables, each counted once in the spans, have no more positions than the heading has nodes.
+pub record NoOverlap (p : Pattern) (h : Term) (r : Matched) : Type 0 where
+  pub apart : ((i : ℕ) → r .answer ≡ refused 9 i → ⊥) → taken (faces p h) ≡ enc h
+  pub fits : (d : Degrees) → r .answer ≡ gives d → sum (positionCount (r .spans)) (firsts (standing p)) ≤ size h
 
 -- The position is one of variable v's.
 abbrev pub InSpan : List ℕ → ℕ → ℕ → Type 0

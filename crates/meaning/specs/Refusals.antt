@@ -17,7 +17,6 @@ use Rattle.theory.specs.Read.{Reading, whole, faulty, reading}
 use Rattle.theory.specs.Pairs.{Pair, pair, listedTop}
 use Rattle.meaning.specs.Limits.{setWords, mostSymbols, mostPairs, mostArguments, variableCount, spanWidth}
 use Rattle.meaning.specs.File.{number, symbolCount, pairCount, aritiesOffset, pairsOffset, totalField, pairsAt, total, aritiesIn, pairsIn}
-use Rattle.meaning.specs.Packing.{packedCount}
 
 -- A refusal: its number and its place.
 pub data Refusal : Type 0 where
@@ -143,10 +142,6 @@ row9 T cut p h = row 9 (clash T cut (faces p h))
 -- 10, at the least variable that no one term can stand for: none is near enough to every subterm that faces the variable.
 unfoldable pub row10 : Table → ℕ → Pattern → Term → Row
 row10 T cut p h = row 10 (leastBelow variableCount (lacking T cut p h))
-
--- 11, at 0: more positions are to be packed than the heading has nodes.
-unfoldable pub row11 : Pattern → Term → List ℕ → Row
-row11 p h heading = row 11 (at0 (ltb (length heading) (packedCount (faces p h))))
 
 -- 12 of the asking program, at 0, before all others: the question file is too short or too long, an offset is not where the counts of
 -- nodes put it, the total is not the length, or the table would begin past the end.

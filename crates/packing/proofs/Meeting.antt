@@ -14,9 +14,7 @@ use Rattle.theory.specs.Tree.{Term}
 use Rattle.theory.specs.Table.{Table}
 use Rattle.theory.specs.Faces.{Face, meets, binds, facing, nodeOf}
 use Rattle.theory.specs.Match.{positions}
-use Rattle.theory.specs.Decode.{patternOf, termOf}
 use Rattle.theory.proofs.Along.{Known, Faced, size-positive}
-use Rattle.theory.proofs.Decoding.{fine-over, pattern-is, heading-of}
 use Rattle.theory.proofs.Gathered.{Gathers, gather-same}
 use Rattle.theory.proofs.Growing.{facing-append}
 use Rattle.theory.proofs.Lemmas.{all-getD}
@@ -26,7 +24,7 @@ use Rattle.meaning.specs.Packing.{firsts, variables, order, countOf, sum, among
 use Rattle.meaning.specs.Calls.{zeros, facesIn}
 use Rattle.meaning.proofs.Loop.{variables-symbol, order-variable, sum-last}
 use Rattle.meaning.proofs.Ordered.{order-symbol, order-met, order-new}
-use Rattle.meaning.proofs.Packing.{room}
+use Rattle.meaning.proofs.NoOverlap.{packed-few}
 use Rattle.terms.specs.Kinds.{kindOf}
 use Rattle.terms.specs.declared.kind.Kind.the-variants.{Symbol, Variable, Neither}
 use Rattle.terms.proofs.Nodes.{kind-variable}
@@ -110,12 +108,7 @@ module _ {table pattern heading : List ℕ} {cut : ℕ} {starts sizes : List ℕ
 
   all-fit : sum (countOf fs) (order fs) ≤ length heading
   unfolding facesIn packedCount
-  all-fit =
-      let r = reads k in
-      let p = pattern-is T (r .small) pattern (r .pattern-reads) in
-      let h = heading-of T (r .small) heading (r .heading-reads) in
-      let over = fine-over T true (patternOf T pattern) (p .0) in
-      omega (arith, room T (r .lawful) cut (k .positive) (patternOf T pattern) (termOf T heading) over (h .0) (k .clear), ap length (h .1))
+  all-fit = packed-few (reads k) cut (k .positive) (k .clear)
 
   module _ {i n : ℕ} {before : List ℕ} {search : Search} {spans sets : List ℕ} (h : Done i n before search spans sets) where
     -- LAW: at the pattern's end

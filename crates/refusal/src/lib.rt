@@ -24,8 +24,6 @@ pub enum Refusal {
     Clash(u16),
     // no term can stand for this variable
     NoForm(u16),
-    // more positions than the heading has nodes
-    Overfull,
     // no such symbol or pair
     Absent,
 }
@@ -46,7 +44,6 @@ impl Refusal {
             Refusal::Room => 8,
             Refusal::Clash(_) => 9,
             Refusal::NoForm(_) => 10,
-            Refusal::Overfull => 11,
             Refusal::Absent => 14,
         }
     }
@@ -66,7 +63,6 @@ impl Refusal {
             Refusal::Counts => 0,
             Refusal::Cut => 0,
             Refusal::Room => 0,
-            Refusal::Overfull => 0,
             Refusal::Absent => 0,
         }
     }

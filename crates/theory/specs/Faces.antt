@@ -4,7 +4,7 @@ use mathlib.Core.List.{List, [], _∷_, _++_}
 use mathlib.Core.Bool.{Bool, true, false}
 use Prim.Native.Nat.{ℕ, _+_}
 use lib.Dec.{eqb}
-use Rattle.theory.specs.Tree.{Term, node, Terms, ∅, _▹_, Pattern, var, sym, Patterns, ∅ₚ, _▸_}
+use Rattle.theory.specs.Tree.{Term, node, Terms, ∅, _▹_, Pattern, var, sym, Patterns, ∅ₚ, _▸_, enc}
 use Rattle.theory.specs.Table.{Table, degree}
 
 -- A node of the pattern with what faces it: a symbol faces a symbol of the heading, a variable a subterm of it.
@@ -33,6 +33,12 @@ abbrev pub facing : ℕ → List Face → List Term
 facing v [] = []
 facing v (meets f g ∷ xs) = facing v xs
 facing v (binds w t ∷ xs) = keep (eqb v w) t (facing v xs)
+
+-- The heading's nodes that face the pattern's, one behind the other: a symbol's is one, a variable's are a whole subterm's.
+abbrev pub taken : List Face → List ℕ
+taken [] = []
+taken (meets f g ∷ fs) = g ∷ taken fs
+taken (binds v t ∷ fs) = enc t ++ taken fs
 
 -- What a pattern's node brings to the degree of the filled pattern with the heading.
 abbrev pub worth : Table → (ℕ → Term) → Face → ℕ

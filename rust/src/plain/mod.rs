@@ -77,8 +77,8 @@ pub fn nearer<'a>(table: &[u8], heading: &[u16], first: &'a [u16], second: &'a [
     }
 }
 
-/// All terms for the pattern's variables that bring it within the cut of the heading, in spans and sets. Refusals 1 to 11: 1 to 8 leave
-/// both buffers as they were, 9 to 11 fill them with 0.
+/// All terms for the pattern's variables that bring it within the cut of the heading, in spans and sets. Refusals 1 to 10: 1 to 8 leave
+/// both buffers as they were, 9 and 10 fill them with 0.
 pub fn match_heading(
     table: &[u8],
     pattern: &[u16],

@@ -1,11 +1,12 @@
--- With the spans cleared all variables are packed, and what comes of them is the search's end.
+-- With the spans cleared all variables are packed, and what comes of them is the search's end. What is packed fits into the sets, since subterms
+-- that face different nodes never overlap.
 use borrow.Author.Needs.{needs}
 use mathlib.Core.Path.{sym, ap, _∙_}
 use native.Mathlib.Omega.{arith}
 use denote.Ref.{now}
 use Rattle.meaning.specs.Calls.{zeros}
 use Rattle.matching.proofs.Clearing.{cleared-all}
-use Rattle.matching.proofs.Searched.{packable, settles}
+use Rattle.matching.proofs.Searched.{packable, fits, settles}
 use Rattle.matching.proofs.search.search_variables.Statement.{statement}
 use Rattle.matching.proofs.search.search_variables.Tie as tie
 
@@ -28,7 +29,16 @@ pack-requires c κs =
 
 settle-requires : tie.Need-settle-requires
 settle-requires c κs =
-    omega (arith, c .before .before .before .before .before .before .before .before .before .before .before .before .before .before .before .before .before .before .before .before .before .before .before .before .before .before .before .before .before .before .before .before .pre .1 .1 .1 .of-sets, c .before .before .before .before .before .before .before .before .before .before .before .before .pack .kept .1 .1 .1 .1 .1 .1 .1 .1 .1 .1 .1 .0)
+    let s = c .before .before .before .before .before .before .before .before .before .before .before .before .before .before .before .before .before .before .before .before .before .before .before .before .before .before .before .before .before .before .before .before in
+    let a = s .args in
+    let packed = c .before .before .before .before .before .before .before .before .before .before .before .before .pack in
+    omega (
+      arith,
+      s .pre .1 .1 .1 .of-sets,
+      packed .kept .1 .1 .1 .1 .1 .1 .1 .1 .1 .1 .1 .0,
+      packed .ensures .packed,
+      fits (now (a .table)) (now (a .pattern)) (now (a .heading)) (a .cut) (now (a .spans)) (now (a .sets)) (s .pre .0) (s .pre .1 .1 .0 .clear),
+    )
 
 same-length : tie.Need-same-length
 same-length c = search needs

@@ -1,4 +1,4 @@
--- A variable without a form comes first, then too many positions; otherwise the words behind the packed ones are cleared.
+-- A variable without a form comes first; otherwise the words behind the packed ones are cleared.
 use borrow.Author.Needs.{needs}
 use mathlib.Core.Path.{refl}
 use native.Mathlib.Omega.{arith}
@@ -23,35 +23,20 @@ returns c =
     let found = c .before .before .before .before .before .before .before .before .before .before .before .args .found in
     rw (lt-ltb (found .lacking) 32 (omega arith)) (c .before .before .before .before .refuse .ensures)
 
-refuse-requires-2 : tie.Need-refuse-requires-2
-refuse-requires-2 c κs = search needs
-
-same-length-3 : tie.Need-same-length-3
-same-length-3 c = search needs
-
-same-length-4 : tie.Need-same-length-4
-same-length-4 c = search needs
-
-returns-2 : tie.Need-returns-2
-unfolding outcomeOf
-returns-2 c =
-    let a = c .before .before .before .before .before .before .before .before .before .before .before .before .before .args in
-    rw (le-ltb (a .found .lacking) 32 (omega arith), lt-ltb (a .nodes) (a .found .packed) (omega arith)) (c .before .before .before .before .refuse2 .ensures)
-
 mul-clear-words : tie.Need-mul-clear-words
 mul-clear-words c = search needs
 
 clear-words-requires : tie.Need-clear-words-requires
 clear-words-requires c κs = search needs
 
-same-length-5 : tie.Need-same-length-5
-same-length-5 c = search needs
+same-length-3 : tie.Need-same-length-3
+same-length-3 c = search needs
 
-returns-3 : tie.Need-returns-3
+returns-2 : tie.Need-returns-2
 unfolding outcomeOf
-returns-3 c =
-    let a = c .before .before .before .before .before .before .before .before .before .before .before .args in
-    rw (le-ltb (a .found .lacking) 32 (omega arith), le-ltb (a .nodes) (a .found .packed) (omega arith)) (same-matched refl refl (c .before .before .clear-words .ensures))
+returns-2 c =
+    let a = c .before .before .before .before .before .before .before .before .before .args in
+    rw (le-ltb (a .found .lacking) 32 (omega arith)) (same-matched refl refl (c .before .before .clear-words .ensures))
 
 pub settle-spec : {M : Type 1} → statement M
 settle-spec =
@@ -61,11 +46,7 @@ settle-spec =
     same-length
     same-length-2
     returns
-    refuse-requires-2
-    same-length-3
-    same-length-4
-    returns-2
     mul-clear-words
     clear-words-requires
-    same-length-5
-    returns-3)
+    same-length-3
+    returns-2)
