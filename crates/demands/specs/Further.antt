@@ -29,7 +29,7 @@ pub record HigherHanded (degreeWith : List ℕ → Answer ℕ) (one two list : L
   pub the-second : (d e : ℕ) → degreeWith one ≡ gives d → degreeWith two ≡ gives e → d < e → list ≡ two
 
 -- ---- a match that is not refused for its input or its room, of a list that writes p and one that writes h: the reasons of a refusal; the sets and
--- the degrees of an answer, and where its variables are packed
+-- the degrees of an answer, where its variables are packed, and why they always fit
 pub record MatchSays (T : Table) (cut : ℕ) (p : Pattern) (h : Term) (pattern : List ℕ) (r : Matched) : Type 0 where
   pub reasons : Reasons T cut p h pattern r
   pub sets-and-degrees : (low high : ℕ) → r .answer ≡ gives (degrees low high) → SetsAndDegrees T cut p h r low high
