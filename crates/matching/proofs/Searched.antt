@@ -33,7 +33,7 @@ use Rattle.meaning.proofs.Parts.{is-term}
 use Rattle.meaning.proofs.Compose.{by-search, by-answer}
 use Rattle.meaning.proofs.Lacking.{Unclashed, unclashed, lacking-none, lacking-just, worst-top}
 use Rattle.meaning.proofs.Lengths.{rooms8, packed-words}
-use Rattle.meaning.proofs.NoOverlap.{packed-few}
+use Rattle.meaning.proofs.NoOverlap.{packed-few-read}
 use Rattle.meaning.proofs.Over.{over-front}
 use Rattle.refusal.specs.declared.Refusal.the-variants.{NoForm}
 use Rattle.packing.specs.declared.Search.{Search}
@@ -142,7 +142,7 @@ module _ (table pattern heading : List ℕ) (cut : ℕ) (spans sets : List ℕ) 
       -- LAW: what is packed is no more than the heading's nodes
       pub fits : packedCount fs ≤ length heading
       unfolding facesIn
-      fits = packed-few lists cut (fit .positive) e
+      fits = packed-few-read lists cut (fit .positive) e
 
       -- LAW: refusal 10
       pub form-ends : bad < variableCount → RefusedBy 10 bad

@@ -106,11 +106,15 @@ module _ (table pattern heading : List ℕ) (cut : ℕ) (spans sets : List ℕ) 
     clear : All (Clear T cut) fs
     clear = none-clear T cut fs (given-none _ _ _ (match-ends table pattern heading cut spans sets accepted r) e .0 .clear)
 
+    -- LAW: the variables are packed in the order in which they first stand in the pattern
+    pub in-order : order fs ≡ firsts (standing p)
+    in-order = ap firsts (variables-standing T (r .lawful) cut (r .positive) p h op (r .heading-is .holds .over) clear)
+
     starts : (v : ℕ) → stands v p ≡ true → firstPosition left v ≡ startIn (positionCount left) v (firsts (standing p))
     starts v s =
         packed-read v (order-among v fs (present T (r .lawful) cut (r .positive) v p h op (r .heading-is .holds .over) clear s)) .0
         ∙ start-counts (countOf fs) (positionCount left) v (order fs) (λ w m. inv (packed-read w m .1))
-        ∙ ap (λ l. startIn (positionCount left) v (firsts l)) (variables-standing T (r .lawful) cut (r .positive) p h op (r .heading-is .holds .over) clear)
+        ∙ ap (startIn (positionCount left) v) in-order
 
     -- THEOREM: where an answered match packs its variables
     pub packed-in-order : PackedInOrder p (matchCall table pattern heading cut spans sets)

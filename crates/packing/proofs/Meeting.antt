@@ -24,7 +24,7 @@ use Rattle.meaning.specs.Packing.{firsts, variables, order, countOf, sum, among
 use Rattle.meaning.specs.Calls.{zeros, facesIn}
 use Rattle.meaning.proofs.Loop.{variables-symbol, order-variable, sum-last}
 use Rattle.meaning.proofs.Ordered.{order-symbol, order-met, order-new}
-use Rattle.meaning.proofs.NoOverlap.{packed-few}
+use Rattle.meaning.proofs.NoOverlap.{packed-few-read}
 use Rattle.terms.specs.Kinds.{kindOf}
 use Rattle.terms.specs.declared.kind.Kind.the-variants.{Symbol, Variable, Neither}
 use Rattle.terms.proofs.Nodes.{kind-variable}
@@ -108,7 +108,7 @@ module _ {table pattern heading : List ℕ} {cut : ℕ} {starts sizes : List ℕ
 
   all-fit : sum (countOf fs) (order fs) ≤ length heading
   unfolding facesIn packedCount
-  all-fit = packed-few (reads k) cut (k .positive) (k .clear)
+  all-fit = packed-few-read (reads k) cut (k .positive) (k .clear)
 
   module _ {i n : ℕ} {before : List ℕ} {search : Search} {spans sets : List ℕ} (h : Done i n before search spans sets) where
     -- LAW: at the pattern's end
