@@ -13,8 +13,8 @@
  * 32768 to 32799 are the variables 0 to 31; any other number is neither. A term has 1 to 1024 nodes and is at most 64 deep (one node alone has
  * depth 1). A heading is a term without variables, a pattern may have some.
  *
- * The degree of two headings is that of their first symbols where those differ in arity or have degree 0; otherwise the least of that degree and
- * the degrees of their arguments, first with first and so on.
+ * Two headings are compared from their first symbols down. Where those differ in arity or have degree 0, the headings have that degree; otherwise
+ * the lowest of it and of what their arguments have, each compared with the one at its place in the other heading.
  *
  * WHAT A CALL RETURNS
  *

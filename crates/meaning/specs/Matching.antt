@@ -30,8 +30,8 @@ pub record Reasons (T : Table) (cut : ℕ) (p : Pattern) (h : Term) (pattern : L
   pub nine : (i : ℕ) → r .answer ≡ refused 9 i → Clashes T cut p h pattern i
   pub ten : (v : ℕ) → r .answer ≡ refused 10 v → MeansFormless T cut p h v
 
--- Of a match that is answered: at each position of a variable the set has just those symbols that are near enough to the symbol at that
--- position of every subterm that faces the variable; and how the degrees lie.
+-- Of a match that is answered: the set at a variable's position k has just those symbols that are near enough to what every subterm facing the
+-- variable has at k; and how the degrees lie.
 pub record SetsAndDegrees (T : Table) (cut : ℕ) (p : Pattern) (h : Term) (r : Matched) (low high : ℕ) : Type 0 where
   pub sets : (v : ℕ) → stands v p ≡ true → (k : ℕ) → k < positionCount (r .spans) v → (s : ℕ) → s < setRoom
       → holds (r .sets) (firstPosition (r .spans) v + k) s ≡ true ↔ ((s < T .size) × All (λ t. cut ≤ T .deg s (at T t k)) (facing v (faces p h)))
