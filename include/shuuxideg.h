@@ -6,7 +6,7 @@
  *
  * A table has up to 256 symbols, numbered from 0. Each has an arity, the number of arguments that it takes, 0 to 8. A degree says how near two
  * symbols are, in thousandths: a symbol has 1000 with itself, two symbols that the table lists as a pair have the pair's degree, in either order,
- * and any other two have 0. Nearness is not passed on: that a is near b and b near c says nothing of a and c. A table is lent as the bytes of a
+ * which is 1 to 999, and any other two have 0; so at cut 1000 only the same is found. Nearness is not passed on: that a is near b and b near c says nothing of a and c. A table is lent as the bytes of a
  * table file, which shx_write_table makes and docs/FORMATS.md describes.
  *
  * A term is a list of 16-bit nodes in preorder: a symbol, then its arguments one after the other. A node below the number of symbols is a symbol;
@@ -29,7 +29,7 @@
  *    2   it has no symbol or over 256, or over 8192 pairs                     0                                  those; shx_write_table
  *    3   an arity is above 8                                                  the first such symbol              those; shx_write_table
  *    4   a pair's lower symbol is not below its higher one, the higher is     the first such pair, from 0        those; shx_write_table
- *        no symbol, their arities differ, the degree is not 1 to 1000, or
+ *        no symbol, their arities differ, the degree is not 1 to 999, or
  *        the pair does not come after the one before it
  *    5   the cut is not 1 to 1000                                             0                                  shx_match
  *    6   the pattern is no term; or the first heading is no heading           the fault, see below               shx_match; shx_heading_degree

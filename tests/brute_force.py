@@ -114,7 +114,7 @@ def random_case(rng):
     symbols = rng.randint(1, 6)
     arities = [rng.choice((0, 0, 0, 1, 2)) for _ in range(symbols)]
     arities[rng.randrange(symbols)] = 0
-    pairs = [(a, b, rng.choice((300, 500, 700, 1000))) for a in range(symbols) for b in range(a + 1, symbols)
+    pairs = [(a, b, rng.choice((300, 500, 700, 999))) for a in range(symbols) for b in range(a + 1, symbols)
              if arities[a] == arities[b] and rng.random() < 0.6]
     table = ref.Table(arities, pairs)
 

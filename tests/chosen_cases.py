@@ -45,7 +45,7 @@ def wide_table():
 
 def largest_table():
     """256 constants and 8,192 pairs."""
-    pairs = [(a, b, 1 + (7 * a + b) % 1000) for a in range(256) for b in range(a + 1, 256)]
+    pairs = [(a, b, 1 + (7 * a + b) % 999) for a in range(256) for b in range(a + 1, 256)]
     return table_bytes([0] * 256, pairs[:8192])
 
 
@@ -237,10 +237,6 @@ def found(cases):
     cases.match(T, [0, X, 0, X + 30, X], [0, 1, 5, 0, 0, 6, 7, 4, 7], 600)
     cases.match(T, nested(64, X), nested(64, 5), 700, 'match 700 1000')
     cases.match(T, [X], nested(64, 5), 500)
-    thousand = table_bytes([0, 0], [(0, 1, 1000)])
-    for cut in 1, 1000:
-        cases.match(thousand, [X], [0], cut, 'match 1000 1000')
-        cases.match(thousand, [0], [1], cut, 'match 1000 1000')
     alone = table_bytes([0], [])
     cases.match(alone, [X], [0], 1, 'match 1000 1000')
     wide = wide_table()
@@ -248,6 +244,36 @@ def found(cases):
         for symbol in 2, 64, 128, 255:
             cases.match(wide, [X], [symbol], cut)
     cases.match(wide, [0, X], [1, 127], 600, 'match 655 900')
+
+
+def same(cases):
+    """The highest degree that may be listed, and cut 1000, at which only the same will do."""
+    cousins = table_bytes([2, 0, 0, 0], [(1, 2, 999), (2, 3, 999)])
+    for cut in 1, 999:
+        cases.match(cousins, [X], [1], cut, 'match 999 1000')
+        cases.match(cousins, [1], [2], cut, 'match 999 999')
+        cases.match(cousins, [0, X, X], [0, 1, 3], cut, 'match 999 999')
+    for heading in [1], [2], [0, 1, 2], [0, 0, 3, 1, 2]:
+        cases.match(cousins, heading, heading, 1000, 'match 1000 1000')
+        cases.match(cousins, [X], heading, 1000, 'match 1000 1000')
+    cases.match(cousins, [1], [2], 1000, 'refused 9 0')
+    cases.match(cousins, [0, X, X], [0, 2, 2], 1000, 'match 1000 1000')
+    cases.match(cousins, [0, X, X], [0, 1, 2], 1000, 'refused 10 0')
+    for i, near in (1, 2), (2, 7), (3, 4), (4, 5):                    # refused where the two lists first differ
+        cases.match(T, HEADING[:i] + [near] + HEADING[i + 1:], HEADING, 1000, 'refused 9 %d' % i)
+    cases.match(T, [0, 2, 6, 1, 5], HEADING, 1000, 'refused 9 1')
+    cases.match(T, [0, 1, 7, 2, 5], HEADING, 1000, 'refused 9 2')
+    cases.match(T, [0, 5, 2, 6], HEADING, 1000, 'refused 9 1')
+    cases.match(T, [0, 1, 5, 1, 1, 6], HEADING, 1000, 'refused 9 3')
+    for a, b, told in (1, 2, 999), (2, 2, 1000), (1, 3, 0):
+        cases.symbol_degree(cousins, a, b, 'degree %d' % told)
+    cases.degree(cousins, [0, 1, 2], [0, 2, 3], 'degree 999')
+    cases.degree(cousins, [0, 1, 2], [0, 1, 2], 'degree 1000')
+    for degree, told in (999, None), (1000, 'refused 4 1'), (1001, 'refused 4 1'), (65535, 'refused 4 1'):
+        listed = table_bytes([2, 0, 0, 0], [(1, 2, 999), (1, 3, degree), (2, 3, 1000 if told else 999)])
+        cases.match(listed, [X], [1], 1, told or 'match 999 1000')
+        cases.symbol_degree(listed, 1, 3, told or 'degree 999')
+        cases.degree(listed, [1], [3], told or 'degree 999')
 
 
 def many(cases):
@@ -279,4 +305,4 @@ def many(cases):
     cases.match(T, [1, 0, X, X], [1, 0] + half + [0] + half[2:] + [5], 500)
 
 
-GROUPS = [document, tables, terms, subterms, nearest, rooms, order, clashes, formless, found, many]
+GROUPS = [document, tables, terms, subterms, nearest, rooms, order, clashes, formless, found, same, many]

@@ -2,7 +2,7 @@
 import reference
 
 X = 32768                                         # variable 0
-DEGREES = [1, 250, 400, 500, 600, 700, 800, 999, 1000]
+DEGREES = [1, 250, 400, 500, 600, 700, 800, 998, 999]
 
 
 class Draw:

@@ -133,7 +133,7 @@ def longest(asked):
         return [1] + sum(parts[:2], []) + [node for i in (2, 7, 12) for node in [1] + sum(parts[i:i + 5], [])]
     heading = over([[255] * ones + [0] for ones in [62] * 2 + [61] * 14 + [25]])
     pattern = over([[X + v] for v in range(15, 32)])
-    asked.match(star([0, 5] + [1] * 254, range(2, 255), [1000]), pattern, heading, 1000, 'match 1000 1000')
+    asked.match(star([0, 5] + [1] * 254, range(2, 255), [999]), pattern, heading, 999, 'match 999 1000')
     leaves = star([8, 7] + [0] * 254, range(2, 255), range(1, 254))
     for cut in 1, 200, 240, 253, 254:
         asked.match(leaves, [1] + [X + 31] * 7, [1] + [255] * 7, cut)
@@ -143,7 +143,7 @@ def longest(asked):
 
 def greatest(asked):
     """The longest question that is a match: 1,024 nodes twice and 8,192 pairs."""
-    pairs = [(a, b, 1 + (7 * a + b) % 1000) for a in range(2, 256) for b in range(a + 1, 256)]
+    pairs = [(a, b, 1 + (7 * a + b) % 999) for a in range(2, 256) for b in range(a + 1, 256)]
     leaves = [2 + (5 * i) % 254 for i in range(896)]
     pattern = leafy(127, 1, [X + i // 28 if i % 28 == 0 else leaf for i, leaf in enumerate(leaves)])
     asked.match(table_bytes([8, 7] + [0] * 254, pairs[:8192]), pattern, leafy(127, 1, leaves), 1)

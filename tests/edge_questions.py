@@ -110,13 +110,13 @@ def pair_faults(arities, pairs, k):
     lower, higher, degree = pairs[k]
     size = len(arities)
     yield from ((lower, lower, degree), (higher, lower, degree), (lower, size, degree), (lower, size + 1, degree), (lower, 65535, degree),
-                (lower, higher + 256, degree), (size, size + 1, degree), (65535, 65535, degree), (lower, higher, 0), (lower, higher, 1001),
+                (lower, higher + 256, degree), (size, size + 1, degree), (65535, 65535, degree), (lower, higher, 0), (lower, higher, 1000), (lower, higher, 1001),
                 (lower, higher, 1256), (lower, higher, 33268), (lower, higher, 65535))
     unlike = [s for s in range(lower + 1, size) if arities[s] != arities[lower]]
     yield from ((lower, s, degree) for s in unlike[:1] + unlike[-1:])
     if k:
         yield pairs[k - 1]
-        yield pairs[k - 1][:2] + (1000,)
+        yield pairs[k - 1][:2] + (999,)
         yield from ((a, b, degree) for a, b, _ in pairs[:1] if k > 1)
 
 
@@ -129,7 +129,7 @@ def pair_places(asked):
         if k:
             turned = table.pairs[:k - 1] + [table.pairs[k], table.pairs[k - 1]] + table.pairs[k + 1:]
             at_tables(asked, [(table_bytes(table.arities, turned), 'refused 4 %d' % k)])
-        for degree in 1, 1000:
+        for degree in 1, 999:
             kept = table.pairs[:k] + [table.pairs[k][:2] + (degree,)] + table.pairs[k + 1:]
             asked.match(table_bytes(table.arities, kept), [X], HEADING, 1)
     row = [(s, s + 1, 500) for s in range(255)]
@@ -138,7 +138,7 @@ def pair_places(asked):
             asked.match(table_bytes([0] * 256, row[:k] + [fault] + row[k + 1:]), [X], [k], 500, 'refused 4 %d' % k)
     most = largest_table()
     for k in 0, 4096, 8191:
-        asked.match(with_number(most, 10 + 256 + 6 * k + 4, 1001), [X], [0], 500, 'refused 4 %d' % k)
+        asked.match(with_number(most, 10 + 256 + 6 * k + 4, 1000), [X], [0], 500, 'refused 4 %d' % k)
     asked.match(most[:-1], [X], [0], 500, 'refused 1 0')
 
 

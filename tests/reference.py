@@ -45,7 +45,7 @@ def check_arities(arities):
 def check_pairs(arities, pairs):
     before = None
     for index, (lower, higher, degree) in enumerate(pairs):
-        sound = lower < higher < len(arities) and arities[lower] == arities[higher] and 1 <= degree <= 1000
+        sound = lower < higher < len(arities) and arities[lower] == arities[higher] and 1 <= degree <= 999
         if not sound or before is not None and (lower, higher) <= before:
             raise Refused(4, index)
         before = (lower, higher)

@@ -6,21 +6,23 @@ use mathlib.Core.List.{List}
 use Prim.Native.Nat.{ℕ}
 use Rattle.theory.specs.Tree.{Term, Pattern}
 use Rattle.meaning.specs.File.{tableIn}
-use Rattle.meaning.specs.Refusals.{first, tableRows}
+use Rattle.meaning.specs.Refusals.{first, tableRows, SoundFile}
 use Rattle.meaning.specs.Calls.{gives, aye, isTable, matchCall}
-use Rattle.meaning.specs.Demands.{WritesTerm, WritesPattern, Accepted}
+use Rattle.meaning.specs.Demands.{WritesTerm, WritesPattern, Accepted, Decides, Demand2}
 use Rattle.meaning.specs.Tables.{TableFile}
+use Rattle.meaning.specs.TopCut.{AtTopCut}
 use Rattle.meaning.proofs.First.{unless-gives}
-use Rattle.meaning.proofs.Recognised.{recognised}
+use Rattle.meaning.proofs.Recognised.{recognised, top-not-listed}
 use Rattle.meaning.proofs.Degrees.{symbol-degrees}
 use Rattle.meaning.proofs.Back.{reads-back}
 use Rattle.meaning.proofs.RoundTrip.{round-trip}
 use Rattle.meaning.proofs.Parts.{terms, subterms, nearest}
-use Rattle.meaning.proofs.Matched.{Ready, ready}
+use Rattle.meaning.proofs.Matched.{Ready, ready, demand2}
 use Rattle.meaning.proofs.Reasons.{reasons}
 use Rattle.meaning.proofs.Sentences.{sentences}
 use Rattle.meaning.proofs.Spans.{answered-none, packed-in-order}
 use Rattle.meaning.proofs.NoOverlap.{no-overlap}
+use Rattle.meaning.proofs.TopCut.{matchers-make-it, same-heading, at-top-cut}
 use Rattle.demands.specs.Further.{MatchSays, Further}
 use Rattle.demands.proofs.Meant.{meant}
 use Rattle.demands.proofs.Paired.{lowest-paired, higher-handed}
@@ -45,18 +47,40 @@ says table pattern heading cut spans sets a p wp h wh =
       no-overlap = no-overlap table pattern heading cut spans sets a;
     })
 
+at-top : (table pattern heading spans sets : List ℕ) → Accepted table pattern heading 1000 spans sets
+    → (p : Pattern) → WritesPattern (tableIn table) pattern p → (h : Term) → WritesTerm (tableIn table) heading h
+    → AtTopCut (tableIn table) p h pattern heading (matchCall table pattern heading 1000 spans sets)
+at-top table pattern heading spans sets a p wp h wh =
+    let r : Ready table pattern heading 1000 = ready table pattern heading 1000 spans sets a in
+    let s = says table pattern heading 1000 spans sets a p wp h wh in
+    at-top-cut (tableIn table) (r .lawful) (r .only-itself) (r .small) pattern heading p wp h wh _ decides (s .reasons) (s .sets-and-degrees)
+  where
+    d : Demand2 table pattern heading 1000 (matchCall table pattern heading 1000 spans sets)
+    d = demand2 table pattern heading 1000 spans sets a
+
+    decides : Decides (tableIn table) 1000 p h (matchCall table pattern heading 1000 spans sets)
+    decides = rw (d .writes-pattern .only p wp, d .writes-heading .only h wh) (d .decides)
+
+accepted : (table : List ℕ) → isTable table ≡ gives aye → SoundFile table
+unfolding isTable
+accepted table e = unless-gives (first (tableRows table)) aye aye e .0
+
 -- THEOREM
 pub further : Further meant
 further =
     record {
       recognised = is-table;
+      top-not-listed = top-not-listed;
       symbol-degrees = symbol-degrees;
       reads-back = reads-back;
       round-trip = round-trip;
       terms = terms;
       paired = lowest-paired;
+      same-heading = same-heading;
       subterms = subterms;
       nearest = nearest;
       higher = higher-handed;
       matches = says;
+      matchers-make-it = λ table e. matchers-make-it table (accepted table e);
+      top-cut = at-top;
     }

@@ -18,10 +18,11 @@ use Rattle.meaning.specs.Limits.{variableCount, spanWidth}
 use Rattle.meaning.specs.File.{symbolCount, pairCount, aritiesIn, pairsIn, tableIn, fileOf}
 use Rattle.meaning.specs.Refusals.{first, Given, row1-short, row1-offsets, row2, row3, row4, row5, row6, row7, row8, row8-output, row9, row10, tableRows, SoundFile}
 use Rattle.meaning.specs.Packing.{packedCount, packedSpans}
-use Rattle.meaning.specs.Calls.{refused, gives, degreeRows, headingDegree, subtermRows, nearerRows, degrees, zeros, facesIn, inputRows, searchRows, matchRows, matched, laterSpans, writerRows, written, laterOutput}
+use Rattle.meaning.specs.Calls.{refused, gives, isTable, degreeRows, headingDegree, subtermRows, nearerRows, degrees, zeros, facesIn, inputRows, searchRows, matchRows, matched, laterSpans, writerRows, written, laterOutput}
 use Rattle.meaning.specs.Demands.{WritesTerm, WritesPattern, Accepted}
-use Rattle.meaning.specs.Tables.{Bytes}
+use Rattle.meaning.specs.Tables.{degreeAt, Bytes}
 use Rattle.meaning.specs.Matching.{InSpan}
+use Rattle.meaning.specs.TopCut.{NoVariable}
 use Rattle.meaning.proofs.First.{first-given}
 use Rattle.meaning.proofs.Bits.{getD-zeros}
 use Rattle.meaning.proofs.RoundTrip.{round-trip}
@@ -72,6 +73,14 @@ pub met-unlisted : SoundFile pairless
 unfolding tableRows row1-short row1-offsets row2 row3 row4 aritiesIn pairsIn
 met-unlisted = (refl, λ k l h d m e. absurd (not-suc-le-zero m))
 
+-- .. and a file that is refused for nothing but its second pair's degree
+abbrev topped : List ℕ
+topped = fileOf (zeros 3) (pair 0 1 999 ∷ pair 1 2 1000 ∷ [])
+
+pub met-topped : (1 < pairCount topped) × (1000 ≤ degreeAt topped 1) × ((n place : ℕ) → isTable topped ≡ refused n place → (3 < n) × (1 ≤ place))
+unfolding isTable tableRows row1-short row1-offsets row2 row3 row4 aritiesIn pairsIn fileOf
+met-topped = (lit< tt, lit≤ tt, λ n place e. let q : n ≡ 4 = cc in let r : place ≡ 1 = cc in (omega arith, omega arith))
+
 -- Further, headings: two that have a degree, two of which one is longer, a subterm, and two candidates of which one is nearer
 pub met-headings : (headingDegree T (1 ∷ 5 ∷ []) (4 ∷ 7 ∷ []) ≡ gives 700) × (headingDegree T (1 ∷ 5 ∷ []) (5 ∷ []) ≡ gives 0) × (first (subtermRows T h) ≡ none) × (1 < length h)
     × (first (nearerRows T (5 ∷ []) (6 ∷ []) (7 ∷ [])) ≡ none)
@@ -95,3 +104,11 @@ unfolding
     matched laterSpans matchRows inputRows searchRows facesIn packedCount packedSpans tableRows row1-short row1-offsets row2 row3 row4 row5 row6 row7 row8 row9 row10 tableIn aritiesIn
     pairsIn patternOf termOf parse parseRow walk several
 met-ground = ((λ v. refl), refl, λ v position i. omega (arith, i .1, getD-zeros 64 (spanWidth * v), getD-zeros 64 (spanWidth * v + 1)))
+
+-- .. and at cut 1000 a pattern without variables with its equal, and with another heading; and a match with a variable that is answered
+pub met-top : NoVariable (5 ∷ []) × Accepted T (5 ∷ []) (5 ∷ []) 1000 (zeros 64) (zeros 4) × Accepted T (5 ∷ []) (7 ∷ []) 1000 (zeros 64) (zeros 4)
+    × (matched T (1 ∷ 32768 ∷ []) (1 ∷ 5 ∷ []) 1000 (zeros 64) (zeros 8) ≡ gives (degrees 1000 1000))
+unfolding
+    matched matchRows inputRows searchRows facesIn packedCount tableRows row1-short row1-offsets row2 row3 row4 row5 row6 row7 row8 row9 row10 tableIn aritiesIn pairsIn
+    patternOf termOf parse parseRow walk several
+met-top = ((lit< tt, tt), refl, refl, refl)

@@ -2,17 +2,19 @@
 use mathlib.Core.Path.{_≡_}
 use mathlib.Core.Logic.{_↔_}
 use mathlib.Core.List.{List}
+use mathlib.Core.Option.{none}
 use Prim.Native.Nat.{ℕ, _≤_, _<_}
 use lib.ListN.{length, getD}
 use Rattle.theory.specs.Tree.{Term, Pattern}
 use Rattle.theory.specs.Table.{Table}
 use Rattle.meaning.specs.File.{tableIn}
-use Rattle.meaning.specs.Refusals.{SoundFile}
-use Rattle.meaning.specs.Calls.{Answer, gives, aye, Degrees, degrees, Matched}
+use Rattle.meaning.specs.Refusals.{first, SoundFile}
+use Rattle.meaning.specs.Calls.{Answer, gives, degreeRows, aye, Degrees, degrees, Matched}
 use Rattle.meaning.specs.Demands.{WritesTerm, WritesPattern, Accepted}
-use Rattle.meaning.specs.Tables.{TableFile, SymbolDegrees, ReadBack, RoundTrip}
+use Rattle.meaning.specs.Tables.{TableFile, TopNotListed, SymbolDegrees, ReadBack, RoundTrip}
 use Rattle.meaning.specs.Parts.{TermLists, Subterms, Nearest}
 use Rattle.meaning.specs.Matching.{Reasons, SetsAndDegrees, PackedInOrder, NoOverlap}
+use Rattle.meaning.specs.TopCut.{MatchersMakeIt, AtTopCut}
 use Rattle.demands.specs.Program.{Program, handedBack}
 
 -- ---- headings, by what the program itself says of symbols and of headings
@@ -39,12 +41,14 @@ pub record MatchSays (T : Table) (cut : ℕ) (p : Pattern) (h : Term) (pattern :
 pub record Further (P : Program) : Type 0 where
   -- tables
   pub recognised : (file : List ℕ) → P .isTable file ≡ gives aye ↔ TableFile file
+  pub top-not-listed : (file : List ℕ) → TopNotListed file (P .isTable file)
   pub symbol-degrees : (table : List ℕ) → SoundFile table → SymbolDegrees table (P .symbolDegree table)
   pub reads-back : (table : List ℕ) → SoundFile table → ReadBack table (P .arityOf table) (P .pairOf table)
   pub round-trip : RoundTrip (P .writeTable)
   -- headings and their parts
   pub terms : (table : List ℕ) → SoundFile table → TermLists table
   pub paired : (table one two : List ℕ) (d : ℕ) → P .headingDegree table one two ≡ gives d → LowestPaired (P .symbolDegree table) one two d
+  pub same-heading : (table one two : List ℕ) → first (degreeRows table one two) ≡ none → P .headingDegree table one two ≡ gives 1000 ↔ (one ≡ two)
   pub subterms : Subterms (P .subterm)
   pub nearest : Nearest (P .nearer)
   pub higher : (table heading one two : List ℕ) → HigherHanded (P .headingDegree table heading) one two (handedBack (P .nearer table heading one two) one two)
@@ -52,3 +56,8 @@ pub record Further (P : Program) : Type 0 where
   pub matches : (table pattern heading : List ℕ) (cut : ℕ) (spans sets : List ℕ) → Accepted table pattern heading cut spans sets
       → (p : Pattern) → WritesPattern (tableIn table) pattern p → (h : Term) → WritesTerm (tableIn table) heading h
       → MatchSays (tableIn table) cut p h pattern (P .match table pattern heading cut spans sets)
+  -- the match at cut 1000
+  pub matchers-make-it : (table : List ℕ) → P .isTable table ≡ gives aye → MatchersMakeIt table
+  pub top-cut : (table pattern heading spans sets : List ℕ) → Accepted table pattern heading 1000 spans sets
+      → (p : Pattern) → WritesPattern (tableIn table) pattern p → (h : Term) → WritesTerm (tableIn table) heading h
+      → AtTopCut (tableIn table) p h pattern heading (P .match table pattern heading 1000 spans sets)

@@ -15,9 +15,10 @@ use Rattle.theory.specs.Table.{Lawful}
 use Rattle.theory.specs.Pairs.{Pair, pair, isPair, listed, SoundPair}
 use Rattle.theory.proofs.Lemmas.{all-getD}
 use Rattle.meaning.specs.File.{symbolCount, pairCount, aritiesIn, pairsIn, tableIn}
-use Rattle.meaning.specs.Refusals.{SoundFile}
+use Rattle.meaning.specs.Refusals.{first, tableRows, SoundFile}
 use Rattle.meaning.specs.Calls.{gives, symbolDegree}
 use Rattle.meaning.specs.Tables.{SymbolDegrees}
+use Rattle.meaning.proofs.First.{unless-gives}
 use Rattle.meaning.proofs.Sound.{Passed, passed, length-pairsIn, length-aritiesIn, sound}
 use Rattle.meaning.proofs.Rising.{After, Sorted, sorted}
 
@@ -68,6 +69,10 @@ module _ (table : List ℕ) (e : SoundFile table) where
   unfolding symbolDegree
   gives-degree a b d k = rw e (ap gives k)
 
+  given-degree : (a b d : ℕ) → symbolDegree table a b ≡ gives d → tableIn table .deg a b ≡ d
+  unfolding symbolDegree
+  given-degree a b d k = unless-gives (first (tableRows table)) (tableIn table .deg a b) d k .1
+
   pub degree-listed : (k l h d : ℕ) → k < pairCount table → getD (pairsIn table) k (pair 0 0 0) ≡ pair l h d → tableIn table .deg l h ≡ d
   unfolding tableIn
   degree-listed k l h d m f =
@@ -101,6 +106,7 @@ module _ (table : List ℕ) (e : SoundFile table) where
       record {
         itself = λ a l. gives-degree a a 1000 (L .itself a (omega (arith, length-aritiesIn table q)));
         listed = λ k l h d m f. (gives-degree l h d (degree-listed k l h d m f), gives-degree h l d (L .either h l ∙ degree-listed k l h d m f));
+        whole = λ a b k. sound table e .only-itself a b (given-degree a b 1000 k);
         others = λ a b n f. gives-degree a b 0 (degree-others a b n f);
         outside = λ a b o. gives-degree a b 0 (degree-outside a b o);
       }

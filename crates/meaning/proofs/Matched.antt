@@ -9,7 +9,7 @@ use Prim.Native.Nat.{ℕ, _+_, _-_, _*_, _≤_, _<_}
 use native.Mathlib.Omega.{arith}
 use lib.ListN.{length, getD}
 use Rattle.theory.specs.Tree.{Term, Pattern, stands}
-use Rattle.theory.specs.Table.{Table, Lawful, Over, Overₚ}
+use Rattle.theory.specs.Table.{Table, Lawful, OnlyItself, Over, Overₚ}
 use Rattle.theory.specs.Faces.{Face, faces, facing}
 use Rattle.theory.specs.Match.{size, clash, lowestOf, highestOf, Matches, Drawn, DrawnAll}
 use Rattle.theory.specs.Least.{leastBelow}
@@ -39,6 +39,7 @@ use Rattle.meaning.proofs.Drawn.{Packed, drawn-from}
 
 pub record Ready (table pattern heading : List ℕ) (cut : ℕ) : Type 0 where
   pub lawful : Lawful (tableIn table)
+  pub only-itself : OnlyItself (tableIn table)
   pub small : tableIn table .size ≤ mostSymbols
   pub positive : 0 < cut
   pub cut-top : cut ≤ 1000
@@ -60,6 +61,7 @@ ready table pattern heading cut spans sets a =
     let b : T .size ≤ 32768 = omega (arith, t .small) in
     record {
       lawful = t .lawful;
+      only-itself = t .only-itself;
       small = t .small;
       positive = cut-inside cut (s .0) .0;
       cut-top = cut-inside cut (s .0) .1;

@@ -1,7 +1,7 @@
 -- A table that is not refused is lawful and has few symbols: no row holds, so what each row tests is as it has to be.
 use mathlib.Core.Path.{_≡_, refl, sym as inv, ap, _∙_}
 use mathlib.Core.List.{List, [], _∷_}
-use mathlib.Core.Bool.{Bool, true, false, _||_, not, false≢true}
+use mathlib.Core.Bool.{Bool, true, false, _||_, not}
 use mathlib.Core.Option.{none, Option·some-ne-none}
 use Prim.Native.Nat.{ℕ, zero, suc, _+_, _≤_, _<_}
 use native.Mathlib.Omega.{arith}
@@ -10,17 +10,13 @@ use lib.ListN.{length, getD, drop, length-take, length-drop}
 use borrow.Author.Tests.{ltb-true, ltb-false, eqb-true, not-false}
 use Rattle.theory.specs.Least.{All}
 use Rattle.theory.specs.Pairs.{Pair, pair, listedTop, SoundPair}
-use Rattle.theory.proofs.Pairs.{lawful}
-use Rattle.theory.proofs.Lemmas.{least-none}
+use Rattle.theory.proofs.Pairs.{lawful, only-itself}
+use Rattle.theory.proofs.Lemmas.{least-none, both-false}
 use Rattle.meaning.specs.Limits.{mostSymbols, mostPairs, mostArguments}
 use Rattle.meaning.specs.File.{symbolCount, pairCount, aritiesOffset, pairsOffset, totalField, pairsAt, total, aritiesIn, pairsFrom, pairsIn, tableIn}
 use Rattle.meaning.specs.Refusals.{at0, outside, unsound, unordered, badPair, row1-short, row1-offsets, row2, row3, row4, tableRows, SoundFile}
 use Rattle.meaning.specs.Tables.{SoundTable}
 use Rattle.meaning.proofs.First.{Silent, all-silent}
-
-pub or-false : (a b : Bool) → (a || b) ≡ false → (a ≡ false) × (b ≡ false)
-or-false true b e = absurd (false≢true (inv e))
-or-false false b e = (refl, e)
 
 pub at0-none : (b : Bool) → at0 b ≡ none → b ≡ false
 at0-none true e = absurd (Option·some-ne-none 0 e)
@@ -28,7 +24,7 @@ at0-none false e = refl
 
 -- n is inside low to high
 pub inside-of : (low high n : ℕ) → outside low high n ≡ false → (low ≤ n) × (n ≤ high)
-inside-of low high n e = let q = or-false (ltb n low) (ltb high n) e in (ltb-false n low (q .0), ltb-false high n (q .1))
+inside-of low high n e = let q = both-false (ltb n low) (ltb high n) e in (ltb-false n low (q .0), ltb-false high n (q .1))
 
 pub all-of : {A : Type 0} (P : A → Type 0) (xs : List A) (d : A) → ((k : ℕ) → k < length xs → P (getD xs k d)) → All P xs
 all-of P [] d h = tt
@@ -36,9 +32,9 @@ all-of P (x ∷ xs) d h = (h 0 (omega arith), all-of P xs d (λ k l. h (suc k) (
 
 pub sound-pair : (arities : List ℕ) (p : Pair) → unsound arities p ≡ false → SoundPair arities p
 sound-pair arities (pair l h d) e =
-    let a = or-false _ (outside 1 listedTop d) e in
-    let b = or-false _ (not (eqb (getD arities l 0) (getD arities h 0))) (a .0) in
-    let c = or-false (not (ltb l h)) (not (ltb h (length arities))) (b .0) in
+    let a = both-false _ (outside 1 listedTop d) e in
+    let b = both-false _ (not (eqb (getD arities l 0) (getD arities h 0))) (a .0) in
+    let c = both-false (not (ltb l h)) (not (ltb h (length arities))) (b .0) in
     let i = inside-of 1 listedTop d (a .1) in
     (ltb-true l h (not-false _ (c .0)), ltb-true h (length arities) (not-false _ (c .1)), eqb-true _ _ (not-false _ (b .1)), i .0, i .1)
 
@@ -46,11 +42,11 @@ pub sound-pairs : (arities : List ℕ) (pairs : List Pair) → Silent (row4 arit
 unfolding row4
 sound-pairs arities pairs e =
     all-of (SoundPair arities) pairs (pair 0 0 0)
-    (λ k l. sound-pair arities (getD pairs k (pair 0 0 0)) (or-false _ (unordered pairs k) (least-none (length pairs) (badPair arities pairs) e k l) .0))
+    (λ k l. sound-pair arities (getD pairs k (pair 0 0 0)) (both-false _ (unordered pairs k) (least-none (length pairs) (badPair arities pairs) e k l) .0))
 
 ordered-pairs : (arities : List ℕ) (pairs : List Pair) → Silent (row4 arities pairs) → (k : ℕ) → k < length pairs → unordered pairs k ≡ false
 unfolding row4
-ordered-pairs arities pairs e k l = or-false (unsound arities (getD pairs k (pair 0 0 0))) _ (least-none (length pairs) (badPair arities pairs) e k l) .1
+ordered-pairs arities pairs e k l = both-false (unsound arities (getD pairs k (pair 0 0 0))) _ (least-none (length pairs) (badPair arities pairs) e k l) .1
 
 -- the offsets and the total are as they have to be
 pub record Offsets (file : List ℕ) : Type 0 where
@@ -66,9 +62,9 @@ offsets file e =
     let b = not (eqb (pairsOffset file) (pairsAt (symbolCount file))) in
     let c = not (eqb (totalField file) (total (symbolCount file) (pairCount file))) in
     let d = not (eqb (totalField file) (length file)) in
-    let t = or-false (a || b || c) d (at0-none (a || b || c || d) e) in
-    let u = or-false (a || b) c (t .0) in
-    let v = or-false a b (u .0) in
+    let t = both-false (a || b || c) d (at0-none (a || b || c || d) e) in
+    let u = both-false (a || b) c (t .0) in
+    let v = both-false a b (u .0) in
     record {
       of-arities = eqb-true (aritiesOffset file) 10 (not-false _ (v .0));
       of-pairs = eqb-true (pairsOffset file) (pairsAt (symbolCount file)) (not-false _ (v .1));
@@ -82,7 +78,7 @@ unfolding row2
 counts-inside s p e =
     let few = outside 1 mostSymbols s in
     let fewPairs = outside 0 mostPairs p in
-    let q = or-false few fewPairs (at0-none (few || fewPairs) e) in
+    let q = both-false few fewPairs (at0-none (few || fewPairs) e) in
     (inside-of 1 mostSymbols s (q .0) .0, inside-of 1 mostSymbols s (q .0) .1, inside-of 0 mostPairs p (q .1) .1)
 
 -- arities that are not too high
@@ -142,5 +138,6 @@ sound table e =
     let q = passed table e in
     record {
       lawful = lawful (aritiesIn table) (pairsIn table) (q .pairs);
+      only-itself = only-itself (aritiesIn table) (pairsIn table) (q .pairs);
       small = omega (arith, length-take (symbolCount table) (drop 10 table), q .symbols);
     }

@@ -2,7 +2,7 @@
 -- they first stand there; so every position that is packed is one of some variable's.
 use mathlib.Core.Path.{_≡_, refl, sym as inv, ap, ap₂, _∙_}
 use mathlib.Core.List.{List, [], _∷_, _++_}
-use mathlib.Core.Bool.{Bool, true, false, _||_, cond, false≢true}
+use mathlib.Core.Bool.{Bool, true, false, cond, false≢true}
 use Prim.Native.Nat.{ℕ, _+_, _-_, _≤_, _<_}
 use native.Mathlib.Nat.{not-suc-le-zero}
 use native.Mathlib.Decide.{decLt}
@@ -13,20 +13,12 @@ use Rattle.theory.specs.Tree.{Term, node, Terms, ∅, _▹_, Pattern, var, sym,
 use Rattle.theory.specs.Table.{Table, Lawful, Over, Overs, Overₚ, Oversₚ}
 use Rattle.theory.specs.Least.{All}
 use Rattle.theory.specs.Faces.{Face, meets, binds, faces, facesOf}
+use Rattle.theory.proofs.Lemmas.{all-left, all-right, both-false}
 use Rattle.theory.proofs.Matchers.{Clear}
-use Rattle.theory.proofs.Taken.{all-left, all-right}
 use Rattle.meaning.specs.Packing.{variables, without, firsts, order, sum, startIn, among}
 use Rattle.meaning.specs.Matching.{standing, standings}
 
 -- ---- a variable that does not stand in the pattern is not packed
-
-or-left : (a b : Bool) → (a || b) ≡ false → a ≡ false
-or-left true b e = absurd (false≢true (inv e))
-or-left false b e = refl
-
-or-right : (a b : Bool) → (a || b) ≡ false → b ≡ false
-or-right true b e = absurd (false≢true (inv e))
-or-right false b e = e
 
 module _ (v : ℕ) where
   none-both : (xs ys : List Face) → among v (variables xs) ≡ false → among v (variables ys) ≡ false → among v (variables (xs ++ ys)) ≡ false
@@ -48,7 +40,7 @@ module _ (v : ℕ) where
     no-faces : (ps : Patterns) (ts : Terms) → standsIn v ps ≡ false → among v (variables (facesOf ps ts)) ≡ false
     no-faces ∅ₚ ts e = refl
     no-faces (p ▸ ps) ∅ e = refl
-    no-faces (p ▸ ps) (t ▹ ts) e = none-both (faces p t) (facesOf ps ts) (no-face p t (or-left (stands v p) (standsIn v ps) e)) (no-faces ps ts (or-right (stands v p) (standsIn v ps) e))
+    no-faces (p ▸ ps) (t ▹ ts) e = none-both (faces p t) (facesOf ps ts) (no-face p t (both-false (stands v p) (standsIn v ps) e .0)) (no-faces ps ts (both-false (stands v p) (standsIn v ps) e .1))
 
   none-without : (w : ℕ) (ws : List ℕ) → among v ws ≡ false → among v (without w ws) ≡ false
   none-without w [] e = refl

@@ -7,11 +7,11 @@ use mathlib.Core.Bool.{false}
 use Prim.Native.Nat.{ℕ, suc, _+_, _*_, _≤_, _<_}
 use lib.ListN.{length, getD, take, drop}
 use Rattle.theory.specs.Least.{All}
-use Rattle.theory.specs.Table.{Lawful}
+use Rattle.theory.specs.Table.{Lawful, OnlyItself}
 use Rattle.theory.specs.Pairs.{Pair, pair, isPair}
 use Rattle.meaning.specs.File.{number, symbolCount, pairCount, aritiesOffset, pairsOffset, totalField, total, aritiesIn, pairsIn, tableIn}
 use Rattle.meaning.specs.Refusals.{SoundFile}
-use Rattle.meaning.specs.Calls.{Answer, refused, gives, written, laterOutput}
+use Rattle.meaning.specs.Calls.{Answer, refused, gives, Yes, written, laterOutput}
 
 -- ---- which files are tables, said outright
 
@@ -31,13 +31,13 @@ higherAt file k = number file (pairStart file k + 2)
 abbrev pub degreeAt : List ℕ → ℕ → ℕ
 degreeAt file k = number file (pairStart file k + 4)
 
--- Pair k may be listed: two symbols of the table, the lower first, of equal arity, with a degree above 0.
+-- Pair k may be listed: two symbols of the table, the lower first, of equal arity, with a degree from 1 to 999.
 pub record ListedWell (file : List ℕ) (k : ℕ) : Type 0 where
   pub lower-first : lowerAt file k < higherAt file k
   pub in-table : higherAt file k < symbolCount file
   pub equal-arities : arityByte file (lowerAt file k) ≡ arityByte file (higherAt file k)
   pub above-zero : 1 ≤ degreeAt file k
-  pub at-most-top : degreeAt file k ≤ 1000
+  pub at-most-top : degreeAt file k ≤ 999
 
 -- Pair k stands before pair j: its lower symbol is lower, or that is the same and its higher one is lower.
 abbrev pub StandsBefore : List ℕ → ℕ → ℕ → Type 0
@@ -60,17 +60,24 @@ pub record TableFile (file : List ℕ) : Type 0 where
 abbrev pub Recognised : Type 0
 Recognised = (file : List ℕ) → SoundFile file ↔ TableFile file
 
+-- A pair with a degree of 1000 or more is refused by 4 at that pair, unless the file is refused by 1 to 3, or by 4 at a pair before it.
+abbrev pub TopNotListed : List ℕ → Answer Yes → Type 0
+TopNotListed file answer =
+    (k : ℕ) → k < pairCount file → 1000 ≤ degreeAt file k → ((n place : ℕ) → answer ≡ refused n place → (3 < n) × (k ≤ place)) → answer ≡ refused 4 k
+
 -- ---- what a table that is not refused holds
 
--- It is lawful, with at most 256 symbols: what is known of degrees in general holds for its symbols.
+-- It is lawful, with at most 256 symbols: what is known of degrees in general holds for its symbols. No two different ones have degree 1000.
 pub record SoundTable (table : List ℕ) : Type 0 where
   pub lawful : Lawful (tableIn table)
+  pub only-itself : OnlyItself (tableIn table)
   pub small : tableIn table .size ≤ 256
 
--- The degree that a call gives for two symbol numbers: 1000 of a symbol with itself, a listed pair's in either order, 0 of every other two,
--- and 0 where one is no symbol, even of a number with itself.
+-- The degree that a call gives for two symbol numbers: 1000 of a symbol with itself and of no other two, a listed pair's in either order, 0 of every
+-- other two, and 0 where one is no symbol, even of a number with itself.
 pub record SymbolDegrees (table : List ℕ) (degreeOf : ℕ → ℕ → Answer ℕ) : Type 0 where
   pub itself : (a : ℕ) → a < symbolCount table → degreeOf a a ≡ gives 1000
+  pub whole : (a b : ℕ) → degreeOf a b ≡ gives 1000 → a ≡ b
   pub listed : (k l h d : ℕ) → k < pairCount table → getD (pairsIn table) k (pair 0 0 0) ≡ pair l h d → (degreeOf l h ≡ gives d) × (degreeOf h l ≡ gives d)
   pub others : (a b : ℕ) → (a ≡ b → ⊥) → ((k l h d : ℕ) → k < pairCount table → getD (pairsIn table) k (pair 0 0 0) ≡ pair l h d → isPair l h a b ≡ false)
       → degreeOf a b ≡ gives 0

@@ -89,7 +89,7 @@ module _ (file : List ℕ) (cut : ℕ) where
     unfolding tableIn
     pair-symbols i l =
         let s = subst (SoundPair (aritiesIn file)) (pair-in file i l) (sound-at file ok i l) in
-        (omega (arith, s .0, s .1), s .1, s .4)
+        (omega (arith, s .0, s .1), s .1, omega (arith, s .4))
 
   module _ (ok : SoundFile file) (positive : 0 < cut) where
     abbrev T : Table

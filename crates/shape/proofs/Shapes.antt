@@ -8,9 +8,10 @@ use native.Mathlib.Omega.{arith}
 use borrow.Author.Tests.{eqb-true, ltb-false, not-false}
 use lib.Dec.{eqb, ltb}
 use lib.ListN.{length}
+use Rattle.theory.proofs.Lemmas.{both-false}
 use Rattle.meaning.specs.File.{number}
 use Rattle.meaning.specs.Refusals.{row, rowPlace, row12}
-use Rattle.meaning.proofs.Sound.{or-false, at0-none}
+use Rattle.meaning.proofs.Sound.{at0-none}
 
 -- LAW: the nodes of a question that is not misshapen lie inside it
 pub nodes-inside : (input : List ℕ) → row12 input ≡ row 12 none → 14 + 2 * number input 2 + 2 * number input 4 ≤ length input
@@ -22,9 +23,9 @@ nodes-inside input e =
     let b = not (eqb (number input 10) (14 + 2 * m + 2 * n)) in
     let c = not (eqb (number input 12) (length input)) in
     let d = ltb (number input 12) (number input 10) in
-    let s = or-false (a || b || c) d (at0-none (a || b || c || d) (ap rowPlace e)) in
-    let t = or-false (a || b) c (s .0) in
-    let u = or-false a b (t .0) in
+    let s = both-false (a || b || c) d (at0-none (a || b || c || d) (ap rowPlace e)) in
+    let t = both-false (a || b) c (s .0) in
+    let u = both-false a b (t .0) in
     omega (
       arith,
       ltb-false (number input 12) (number input 10) (s .1),

@@ -11,9 +11,10 @@ use lib.ListN.{length}
 use lib.Dec.{eqb}
 use Rattle.theory.specs.Least.{orElse, leastBelow}
 use Rattle.theory.specs.Pairs.{Pair}
+use Rattle.theory.proofs.Lemmas.{both-false}
 use Rattle.meaning.specs.File.{symbolCount, pairCount, aritiesOffset, pairsOffset, totalField, pairsAt, total}
 use Rattle.meaning.specs.Refusals.{row, rowPlace, row1-offsets, row3, row4}
-use Rattle.meaning.proofs.Sound.{or-false, at0-none}
+use Rattle.meaning.proofs.Sound.{at0-none}
 
 least-below : (b : ℕ → Bool) (n k : ℕ) → leastBelow n b ≡ just k → k < n
 least-below b zero k e = absurd (Option·some-ne-none k (sym e))
@@ -42,6 +43,6 @@ placed-length file e =
     let b = not (eqb (pairsOffset file) (pairsAt (symbolCount file))) in
     let c = not (eqb (totalField file) (total (symbolCount file) (pairCount file))) in
     let d = not (eqb (totalField file) (length file)) in
-    let t = or-false (a || b || c) d (at0-none (a || b || c || d) (ap rowPlace e)) in
-    let u = or-false (a || b) c (t .0) in
+    let t = both-false (a || b || c) d (at0-none (a || b || c || d) (ap rowPlace e)) in
+    let u = both-false (a || b) c (t .0) in
     sym (eqb-true (totalField file) (length file) (not-false _ (t .1))) ∙ eqb-true (totalField file) (total (symbolCount file) (pairCount file)) (not-false _ (u .1))

@@ -48,6 +48,9 @@ pub fn key(lower: u16, higher: u16) -> u32
     lower as u32 * 65536 + higher as u32
 }
 
+// The highest degree that a pair may have: 1000 is a symbol's with itself alone.
+const LISTED_TOP: u16 = 999;
+
 // Whether a pair may be listed after one with the key `previous`; 0 stands before every pair.
 pub fn may_follow(arities: &[u8], previous: u32, lower: u16, higher: u16, degree: u16) -> bool
     ensures { λ r. ⌜ r ≡ (not (unsound (now (arities .entry)) (pair lower higher degree)) && ltb previous (keyOf lower higher)) ⌝ }
@@ -66,7 +69,7 @@ pub fn may_follow(arities: &[u8], previous: u32, lower: u16, higher: u16, degree
     if degree < 1 {
         return false;
     }
-    if degree > 1000 {
+    if degree > LISTED_TOP {
         return false;
     }
     previous < key(lower, higher)

@@ -15,10 +15,9 @@ use Rattle.theory.specs.Tree.{Term, enc}
 use Rattle.theory.specs.Table.{Table, Over}
 use Rattle.theory.specs.Faces.{Face, meets, binds, facing, nodeOf}
 use Rattle.theory.specs.Match.{size, at, clash}
-use Rattle.theory.proofs.Lemmas.{all-getD}
+use Rattle.theory.proofs.Lemmas.{all-right, all-getD}
 use Rattle.theory.proofs.Growing.{facing-append}
 use Rattle.theory.proofs.Matchers.{Clear, none-clear}
-use Rattle.theory.proofs.Taken.{all-right}
 use Rattle.theory.proofs.Along.{Readable, allFaces, Known, Faced, Along, along-start, along-symbol, along-variable, along-faced}
 
 -- ---- where nothing clashes every node of the pattern's list faces something

@@ -1,5 +1,5 @@
 -- Lemmas on `least` and `All`, and on the numbers below n.
-use mathlib.Core.Path.{_≡_, refl, sym as inv, ap, _∙_, subst}
+use mathlib.Core.Path.{_≡_, refl, sym as inv, _∙_, subst}
 use mathlib.Core.Logic.{_⊎_, inl, inr}
 use mathlib.Core.List.{List, [], _∷_, _++_}
 use mathlib.Core.Bool.{Bool, true, false, _&&_, _||_, cond, false≢true}
@@ -36,6 +36,14 @@ module _ {A : Type 0} where
   all-append P [] ys h k = k
   all-append P (x ∷ xs) ys h k = (h .0, all-append P xs ys (h .1) k)
 
+  pub all-left : (P : A → Type 0) (xs ys : List A) → All P (xs ++ ys) → All P xs
+  all-left P [] ys h = tt
+  all-left P (x ∷ xs) ys h = (h .0, all-left P xs ys (h .1))
+
+  pub all-right : (P : A → Type 0) (xs ys : List A) → All P (xs ++ ys) → All P ys
+  all-right P [] ys h = h
+  all-right P (x ∷ xs) ys h = all-right P xs ys (h .1)
+
   pub all-getD : (P : A → Type 0) (xs : List A) (k : ℕ) (z : A) → k < length xs → All P xs → P (getD xs k z)
   all-getD P [] k z l h = absurd (not-suc-le-zero l)
   all-getD P (x ∷ xs) zero z l h = h .0
@@ -54,6 +62,10 @@ and-left false b p = p
 pub and-right : (a b : Bool) → (a && b) ≡ true → b ≡ true
 and-right true b p = p
 and-right false b p = absurd (false≢true p)
+
+pub both-false : (a b : Bool) → (a || b) ≡ false → (a ≡ false) × (b ≡ false)
+both-false true b e = absurd (false≢true (inv e))
+both-false false b e = (refl, e)
 
 pub or-left : (a b : Bool) → a ≡ true → (a || b) ≡ true
 or-left true b e = refl

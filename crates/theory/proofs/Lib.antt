@@ -22,6 +22,8 @@ pub mod Reading
 pub mod Decoding
 -- tables of listed pairs
 pub mod Pairs
+-- at cut 1000
+pub mod Identity
 -- for the proofs of code: loops along the pattern's list and the heading's
 pub mod Rows
 pub mod Along

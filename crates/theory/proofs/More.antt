@@ -1,22 +1,22 @@
 -- Further laws: the degree of a term with itself and in either order; a richer table; a clash's place; a variable's own highest.
-use mathlib.Core.Path.{_≡_, refl, sym as inv, ap, ap₂, _∙_, subst}
-use mathlib.Core.Logic.{_↔_, _⊎_, inl, inr}
-use mathlib.Core.List.{List, [], _∷_, _++_}
+use mathlib.Core.Path.{_≡_, refl, sym as inv, _∙_, subst}
+use mathlib.Core.Logic.{_⊎_, inl, inr}
+use mathlib.Core.List.{List, [], _∷_}
 use mathlib.Core.Bool.{Bool, true, false, cond, false≢true}
 use mathlib.Core.Option.{Option, none, some as just, Option·some-ne-none, Option·some-injective}
-use Prim.Native.Nat.{ℕ, zero, suc, _+_, _≤_, _<_, min}
-use native.Mathlib.Nat.{le-trans, le-antisymm, le-of-eq, not-suc-le-zero}
+use Prim.Native.Nat.{ℕ, zero, suc, _≤_, _<_}
+use native.Mathlib.Nat.{le-trans, not-suc-le-zero}
 use native.Mathlib.Omega.{arith}
-use lib.Dec.{ltb, eqb}
-use lib.ListN.{length, getD}
+use lib.Dec.{ltb}
+use lib.ListN.{getD}
 use borrow.Author.Tests.{ltb-true, ltb-false}
-use Rattle.theory.specs.Tree.{Term, node, Terms, ∅, _▹_, Pattern, count, fill, stands}
-use Rattle.theory.specs.Table.{Table, Lawful, Over, Overs, degree, degrees, Matcher}
+use Rattle.theory.specs.Tree.{Term, node, Terms, ∅, _▹_}
+use Rattle.theory.specs.Table.{Table, Lawful, Over, Overs, degree, degrees}
 use Rattle.theory.specs.Faces.{Face, meets, binds}
-use Rattle.theory.specs.Match.{shared, inSet, positions, formed, highestAt, clash, oneOn, ClashAt}
-use Rattle.theory.specs.Least.{lowest, highest, some}
+use Rattle.theory.specs.Match.{shared, inSet, highestAt, clash, oneOn, ClashAt}
+use Rattle.theory.specs.Least.{some}
 use Rattle.theory.proofs.Lemmas.{some-of, le-highest, Chosen, the-most}
-use Rattle.theory.proofs.Flat.{degree-min, degree-top}
+use Rattle.theory.proofs.Flat.{degree-min}
 use Rattle.theory.proofs.Draw.{in-set, set-symbol, set-shared}
 
 module _ (T : Table) (L : Lawful T) where
@@ -63,10 +63,10 @@ module _ (T R : Table) (LT : Lawful T) (LR : Lawful R) (more : (a b : ℕ) → T
 binds≢meets : (v : ℕ) (t : Term) (f g : ℕ) → binds v t ≡ meets f g → ⊥
 binds≢meets v t f g e = let z : _≡_ {A = ℕ} 0 1 = cc in omega arith
 
-meets-left : (f g f′ g′ : ℕ) → meets f g ≡ meets f′ g′ → f ≡ f′
+pub meets-left : (f g f′ g′ : ℕ) → meets f g ≡ meets f′ g′ → f ≡ f′
 meets-left f g f′ g′ e = cc
 
-meets-right : (f g f′ g′ : ℕ) → meets f g ≡ meets f′ g′ → g ≡ g′
+pub meets-right : (f g f′ g′ : ℕ) → meets f g ≡ meets f′ g′ → g ≡ g′
 meets-right f g f′ g′ e = cc
 
 -- a clash's place: the face there is of symbols below the cut, and no face before it is

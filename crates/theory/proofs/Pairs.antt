@@ -1,15 +1,15 @@
--- A table whose pairs are sound is lawful.
+-- A table whose pairs are sound is lawful, and only a symbol with itself has degree 1000 there.
 use mathlib.Core.Path.{_≡_, refl, sym as inv, ap, _∙_}
 use mathlib.Core.List.{List, [], _∷_}
 use mathlib.Core.Bool.{Bool, true, false, _&&_, _||_, cond}
-use Prim.Native.Nat.{ℕ, zero, suc, _+_, _≤_, _<_}
+use Prim.Native.Nat.{ℕ, _≤_, _<_}
 use native.Mathlib.Omega.{arith}
 use lib.Dec.{eqb, ltb}
 use borrow.Author.Tests.{ltb-true, lt-ltb, eqb-true, eq-eqb, ne-eqb, eqb-false}
 use lib.ListN.{length, getD}
 use Rattle.theory.specs.Least.{All}
-use Rattle.theory.specs.Table.{Table, Lawful}
-use Rattle.theory.specs.Pairs.{Pair, pair, isPair, listed, degreeIn, tableOf, SoundPair}
+use Rattle.theory.specs.Table.{Lawful, OnlyItself}
+use Rattle.theory.specs.Pairs.{Pair, pair, listed, degreeIn, tableOf, listedTop, SoundPair}
 
 eqb-swap : (a b : ℕ) → eqb a b ≡ eqb b a
 eqb-swap a b = go (eqb a b) refl
@@ -49,12 +49,12 @@ and-swap false false = refl
 
 module _ (arities : List ℕ) where
   -- what is listed for a and b is sound, if it is above 0
-  listed-sound : (ps : List Pair) → All (SoundPair arities) ps → (a b : ℕ) → (listed ps a b ≤ 1000) × (0 < listed ps a b → getD arities a 0 ≡ getD arities b 0)
+  listed-sound : (ps : List Pair) → All (SoundPair arities) ps → (a b : ℕ) → (listed ps a b ≤ listedTop) × (0 < listed ps a b → getD arities a 0 ≡ getD arities b 0)
   listed-sound [] s a b = (omega arith, λ h. absurd (omega arith))
   listed-sound (pair l h d ∷ ps) s a b = go (eqb a l) refl (eqb b h) refl (eqb a h) refl (eqb b l) refl (listed-sound ps (s .1) a b)
     where
       R : ℕ → Type 0
-      R n = (n ≤ 1000) × (0 < n → getD arities a 0 ≡ getD arities b 0)
+      R n = (n ≤ listedTop) × (0 < n → getD arities a 0 ≡ getD arities b 0)
 
       straight : eqb a l ≡ true → eqb b h ≡ true → R d
       straight e f = (s .0 .4, λ q. ap (λ x. getD arities x 0) (eqb-true a l e) ∙ s .0 .2 ∙ ap (λ x. getD arities x 0) (inv (eqb-true b h f)))
@@ -83,7 +83,7 @@ module _ (arities : List ℕ) where
       go false e q f r g = (omega arith, λ h. absurd (omega arith))
       go true e false f r g = (omega arith, λ h. absurd (omega arith))
       go true e true f true g = (omega arith, λ h. ((ltb-true _ _ e, ltb-true _ _ f), ap (λ x. getD arities x 0) (eqb-true a b g)))
-      go true e true f false g = (listed-sound ps s a b .0, λ h. ((ltb-true _ _ e, ltb-true _ _ f), listed-sound ps s a b .1 h))
+      go true e true f false g = (omega (arith, listed-sound ps s a b .0), λ h. ((ltb-true _ _ e, ltb-true _ _ f), listed-sound ps s a b .1 h))
 
   -- a table whose pairs are sound is lawful
   pub lawful : (ps : List Pair) → All (SoundPair arities) ps → Lawful (tableOf arities ps)
@@ -95,3 +95,12 @@ module _ (arities : List ℕ) where
         inside = λ a b q. degree-good ps s a b .1 q .0;
         alike = λ a b q. degree-good ps s a b .1 q .1;
       }
+
+  -- LAW: two different symbols never have degree 1000
+  pub only-itself : (ps : List Pair) → All (SoundPair arities) ps → OnlyItself (tableOf arities ps)
+  only-itself ps s a b = go (ltb a (length arities) && ltb b (length arities)) (eqb a b) refl
+    where
+      go : (p q : Bool) → eqb a b ≡ q → cond p (cond q 1000 (listed ps a b)) 0 ≡ 1000 → a ≡ b
+      go false q e k = absurd (omega arith)
+      go true true e k = eqb-true a b e
+      go true false e k = absurd (omega (arith, listed-sound ps s a b .0))

@@ -1,9 +1,9 @@
 -- Where nothing clashes, every variable that stands in the pattern faces a subterm.
-use mathlib.Core.Path.{_≡_, refl, sym as inv, ap, _∙_}
+use mathlib.Core.Path.{_≡_, sym as inv, _∙_}
 use mathlib.Core.Logic.{_⊎_, inl, inr}
-use mathlib.Core.List.{List, [], _∷_, _++_}
-use mathlib.Core.Bool.{Bool, true, false, _||_, false≢true}
-use Prim.Native.Nat.{ℕ, zero, suc, _+_, _≤_, _<_}
+use mathlib.Core.List.{List, _++_}
+use mathlib.Core.Bool.{true, false, false≢true}
+use Prim.Native.Nat.{ℕ, _+_, _<_}
 use native.Mathlib.Omega.{arith}
 use lib.ListN.{length, length-append}
 use Rattle.theory.specs.Tree.{Term, node, Terms, ∅, _▹_, Pattern, var, sym, Patterns, ∅ₚ, _▸_, count, countₚ, stands, standsIn}
@@ -11,7 +11,7 @@ use Rattle.theory.specs.Table.{Table, Lawful, Over, Overs, Overₚ, Over
 use Rattle.theory.specs.Least.{All}
 use Rattle.theory.specs.Faces.{Face, faces, facesOf, facing}
 use Rattle.theory.proofs.Matchers.{Clear}
-use Rattle.theory.proofs.Taken.{all-left, all-right}
+use Rattle.theory.proofs.Lemmas.{all-left, all-right}
 use Rattle.theory.proofs.Growing.{facing-append}
 use Rattle.theory.proofs.Verdict.{or-cases}
 

@@ -7,20 +7,13 @@ use Rattle.theory.specs.Tree.{Term, node, Terms, ∅, _▹_, Pattern, va
 use Rattle.theory.specs.Table.{Table, Lawful, Over, Overs, Overₚ, Oversₚ}
 use Rattle.theory.specs.Least.{All}
 use Rattle.theory.specs.Faces.{Face, meets, binds, faces, facesOf, taken}
+use Rattle.theory.proofs.Lemmas.{all-left, all-right}
 use Rattle.theory.proofs.Matchers.{Clear}
 
 taken-append : (xs ys : List Face) → taken (xs ++ ys) ≡ taken xs ++ taken ys
 taken-append [] ys = refl
 taken-append (meets f g ∷ xs) ys = ap (λ l. g ∷ l) (taken-append xs ys)
 taken-append (binds v t ∷ xs) ys = ap (λ l. enc t ++ l) (taken-append xs ys) ∙ inv (append-assoc (enc t) (taken xs) (taken ys))
-
-pub all-left : (P : Face → Type 0) (xs ys : List Face) → All P (xs ++ ys) → All P xs
-all-left P [] ys a = tt
-all-left P (x ∷ xs) ys a = (a .0, all-left P xs ys (a .1))
-
-pub all-right : (P : Face → Type 0) (xs ys : List Face) → All P (xs ++ ys) → All P ys
-all-right P [] ys a = a
-all-right P (x ∷ xs) ys a = all-right P xs ys (a .1)
 
 module _ (T : Table) (L : Lawful T) (c : ℕ) (pos : 0 < c) where
   mutual

@@ -7,7 +7,7 @@ use mathlib.Core.Bool.{Bool, true, _&&_, cond}
 use mathlib.Core.Option.{Option, none, some as just}
 use Prim.Native.Nat.{ℕ, suc, _≤_, _<_}
 use lib.Dec.{ltb, leb}
-use lib.ListN.{length, getD}
+use lib.ListN.{length, getD, take}
 use Rattle.theory.specs.Tree.{Term, Pattern, enc, fill, stands}
 use Rattle.theory.specs.Table.{Table, Over, degree, Matcher}
 use Rattle.theory.specs.Least.{least, All, every, some, lowest, highest}
@@ -26,6 +26,13 @@ positions (t ∷ ts) = size t
 abbrev pub oneOn : Option ℕ → Option ℕ
 oneOn none = none
 oneOn (just i) = just (suc i)
+
+-- Place i is the first at which the two lists differ.
+pub record FirstUnlike (xs ys : List ℕ) (i : ℕ) : Type 0 where
+  pub in-one : i < length xs
+  pub in-other : i < length ys
+  pub before : take i xs ≡ take i ys
+  pub unlike : getD xs i 0 ≡ getD ys i 0 → ⊥
 
 module _ (T : Table) where
   -- The symbol at position k of a term, in preorder. Past the term's end there is none: T's size is no symbol.

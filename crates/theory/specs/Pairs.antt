@@ -1,7 +1,7 @@
 -- A table from its arities and its listed pairs.
 use mathlib.Core.Path.{_≡_}
 use mathlib.Core.List.{List, [], _∷_}
-use mathlib.Core.Bool.{Bool, true, false, _&&_, _||_, cond}
+use mathlib.Core.Bool.{Bool, _&&_, _||_, cond}
 use Prim.Native.Nat.{ℕ, _≤_, _<_}
 use lib.Dec.{eqb, ltb}
 use lib.ListN.{length, getD}
@@ -27,10 +27,10 @@ degreeIn n ps a b = cond (ltb a n && ltb b n) (cond (eqb a b) 1000 (listed ps a 
 abbrev pub tableOf : List ℕ → List Pair → Table
 tableOf arities ps = record { size = length arities; arity = λ a. getD arities a 0; deg = degreeIn (length arities) ps }
 
--- The highest degree that may be listed.
+-- The highest degree that may be listed: two different symbols are never wholly the same.
 abbrev pub listedTop : ℕ
-listedTop = 1000
+listedTop = 999
 
--- A pair that may be listed: two different symbols of the table with equal arities, and a degree from 1 to the top.
+-- A pair that may be listed: two different symbols of the table with equal arities, and a degree from 1 to the highest that may be listed.
 abbrev pub SoundPair : List ℕ → Pair → Type 0
 SoundPair ar (pair l h d) = (l < h) × (h < length ar) × (getD ar l 0 ≡ getD ar h 0) × (0 < d) × (d ≤ listedTop)

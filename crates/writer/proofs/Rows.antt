@@ -10,13 +10,13 @@ use native.Mathlib.Decide.{decLt}
 use lib.Dec.{ltb}
 use lib.ListN.{length, getD, List·getD-eq-default}
 use borrow.Author.Tests.{ltb-true, ltb-false, lt-ltb, le-ltb}
-use Rattle.theory.proofs.Lemmas.{least-just}
+use Rattle.theory.proofs.Lemmas.{least-just, both-false}
 use Rattle.meaning.specs.Limits.{mostSymbols, mostPairs, mostArguments}
 use Rattle.meaning.specs.File.{total, header}
 use Rattle.meaning.specs.Refusals.{Refusal, refusal, Row, row, rowPlace, first, outside, row2, row3}
 use Rattle.meaning.specs.Calls.{Answer, refused, gives, unless}
 use Rattle.meaning.proofs.First.{unless-refused, unless-gives, Silent, all-silent}
-use Rattle.meaning.proofs.Sound.{or-false, at0-none, inside-of}
+use Rattle.meaning.proofs.Sound.{at0-none, inside-of}
 use Rattle.meaning.specs.Over.{over}
 use Rattle.writer.specs.Passing.{countedRows, countedAnswer, begunOutput}
 use Rattle.meaning.specs.Calls.{refusedAs}
@@ -32,7 +32,7 @@ unfolding row2
 counts-within symbols p e =
     let a = outside 1 mostSymbols symbols in
     let b = outside 0 mostPairs p in
-    let q = or-false a b (at0-none (a || b) e) in
+    let q = both-false a b (at0-none (a || b) e) in
     let i = inside-of 1 mostSymbols symbols (q .0) in
     record { some = i .0; few = i .1; few-pairs = inside-of 0 mostPairs p (q .1) .1 }
 

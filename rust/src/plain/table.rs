@@ -3,8 +3,10 @@
 use super::refuse;
 use crate::{Answer, Pair};
 
-/// The highest degree.
+/// The highest degree: of a symbol with itself.
 pub const TOP: u16 = 1000;
+/// The highest degree that a pair may have.
+const LISTED_TOP: u16 = 999;
 /// How many bytes stand before the arities.
 pub const HEADER: usize = 10;
 /// How many bytes a pair has.
@@ -62,7 +64,7 @@ impl<'a> Rising<'a> {
         let sound = lower < higher
             && higher < self.arities.len()
             && self.arities[lower] == self.arities[higher]
-            && (1..=TOP).contains(&pair.degree);
+            && (1..=LISTED_TOP).contains(&pair.degree);
         if key <= self.before || !sound {
             return refuse(4, index);
         }

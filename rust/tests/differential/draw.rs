@@ -34,9 +34,9 @@ impl Draw {
 
     fn degree(&mut self) -> u16 {
         if self.chance(70) {
-            self.one(&[1, 250, 400, 500, 600, 700, 800, 999, 1000])
+            self.one(&[1, 250, 400, 500, 600, 700, 800, 998, 999])
         } else {
-            1 + self.below(1000) as u16
+            1 + self.below(999) as u16
         }
     }
 }
@@ -249,7 +249,7 @@ pub fn damaged_pairs(draw: &mut Draw, symbols: usize, pairs: &[Pair]) -> Vec<Pai
     let (at, other) = (draw.below(pairs.len()), draw.below(pairs.len()));
     let any = draw.below(symbols) as u16;
     match draw.below(8) {
-        0 => pairs[at].degree = draw.one(&[0, 1, 1000, 1001, 65535]),
+        0 => pairs[at].degree = draw.one(&[0, 1, 999, 1000, 1001, 65535]),
         1 => pairs[at].higher = draw.one(&[symbols as u16, 256, 65535]),
         2 => pairs[at].lower = pairs[at].higher,
         3 => {

@@ -61,7 +61,7 @@ fn large_tables() {
 #[test]
 fn counts_at_the_limits() {
     let full: Vec<Pair> = (0..256)
-        .flat_map(|lower| (lower + 1..256).map(move |higher| Pair { lower, higher, degree: 1000 - lower }))
+        .flat_map(|lower| (lower + 1..256).map(move |higher| Pair { lower, higher, degree: 999 - lower }))
         .collect();
     let mut asked = 0;
     for symbols in [0, 1, 2, 255, 256, 257, 65536, 65536 + 8] {

@@ -46,7 +46,7 @@ impl Table {
     }
 
     /// 256 symbols: a quarter takes two arguments, an eighth one, the others are constants. Exactly so many of the pairs that may be
-    /// listed are, spread evenly over them, with degrees from 1 to 1000.
+    /// listed are, spread evenly over them, with degrees from 1 to 999.
     pub fn of_256_symbols(count: usize) -> Self {
         let mut draw = Draw::new(0x0bad_cafe);
         let arities: Vec<u8> = (0..256).map(|symbol| [2, 0, 0, 1, 2, 0, 0, 0][symbol % 8]).collect();
@@ -57,7 +57,7 @@ impl Table {
         let mut pairs = Vec::new();
         for (index, &(lower, higher)) in may_be_listed.iter().enumerate() {
             if draw.below(may_be_listed.len() - index) < count - pairs.len() {
-                pairs.push(Pair { lower, higher, degree: 1 + draw.below(1000) as u16 });
+                pairs.push(Pair { lower, higher, degree: 1 + draw.below(999) as u16 });
             }
         }
         Table::new(arities, pairs)

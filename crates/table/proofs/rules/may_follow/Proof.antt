@@ -6,6 +6,7 @@ use lib.ListN.{length, getD}
 use mathlib.Core.Path.{ap}
 use lib.Dec.{ltb}
 use denote.Ref.{now}
+use Rattle.theory.specs.Pairs.{listedTop}
 use Rattle.table.proofs.rules.may_follow.Statement.{statement}
 use Rattle.table.proofs.rules.may_follow.Tie as tie
 
@@ -38,7 +39,7 @@ returns-4 c =
 returns-5 : tie.Need-returns-5
 returns-5 c =
     let a = c .before .before .before .before .before .before .before .before .args in
-    rw (lt-ltb (a .lower) (a .higher) (omega arith), lt-ltb (a .higher) (length (now (a .arities))) (omega arith), eq-eqb (getD (now (a .arities)) (a .lower) 0) (getD (now (a .arities)) (a .higher) 0) (omega arith), le-ltb (a .degree) 1 (omega arith), lt-ltb 1000 (a .degree) (omega arith))
+    rw (lt-ltb (a .lower) (a .higher) (omega arith), lt-ltb (a .higher) (length (now (a .arities))) (omega arith), eq-eqb (getD (now (a .arities)) (a .lower) 0) (getD (now (a .arities)) (a .higher) 0) (omega arith), le-ltb (a .degree) 1 (omega arith), lt-ltb listedTop (a .degree) (omega arith))
 
 key-requires : tie.Need-key-requires
 key-requires c κs = search needs
@@ -46,7 +47,7 @@ key-requires c κs = search needs
 returns-6 : tie.Need-returns-6
 returns-6 c =
     let a = c .before .before .before .before .before .before .before .before .before .args in
-    rw (lt-ltb (a .lower) (a .higher) (omega arith), lt-ltb (a .higher) (length (now (a .arities))) (omega arith), eq-eqb (getD (now (a .arities)) (a .lower) 0) (getD (now (a .arities)) (a .higher) 0) (omega arith), le-ltb (a .degree) 1 (omega arith), le-ltb 1000 (a .degree) (omega arith)) (ap (ltb (a .previous)) (c .key .ensures))
+    rw (lt-ltb (a .lower) (a .higher) (omega arith), lt-ltb (a .higher) (length (now (a .arities))) (omega arith), eq-eqb (getD (now (a .arities)) (a .lower) 0) (getD (now (a .arities)) (a .higher) 0) (omega arith), le-ltb (a .degree) 1 (omega arith), le-ltb listedTop (a .degree) (omega arith)) (ap (ltb (a .previous)) (c .key .ensures))
 
 pub may-follow-spec : {M : Type 1} → statement M
 may-follow-spec =
