@@ -12,7 +12,8 @@ use Rattle.meaning.specs.Demands.{WritesTerm, WritesPattern, Accepted, Decides,
 use Rattle.meaning.specs.Tables.{TableFile}
 use Rattle.meaning.specs.TopCut.{AtTopCut}
 use Rattle.meaning.proofs.First.{unless-gives}
-use Rattle.meaning.proofs.Recognised.{recognised, top-not-listed}
+use Rattle.meaning.proofs.Recognised.{recognised}
+use Rattle.meaning.proofs.NotListed.{top-not-listed, top-not-written}
 use Rattle.meaning.proofs.Degrees.{symbol-degrees}
 use Rattle.meaning.proofs.Back.{reads-back}
 use Rattle.meaning.proofs.RoundTrip.{round-trip}
@@ -71,6 +72,7 @@ further =
     record {
       recognised = is-table;
       top-not-listed = top-not-listed;
+      top-not-written = top-not-written;
       symbol-degrees = symbol-degrees;
       reads-back = reads-back;
       round-trip = round-trip;

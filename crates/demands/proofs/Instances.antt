@@ -18,7 +18,7 @@ use Rattle.meaning.specs.Limits.{variableCount, spanWidth}
 use Rattle.meaning.specs.File.{symbolCount, pairCount, aritiesIn, pairsIn, tableIn, fileOf}
 use Rattle.meaning.specs.Refusals.{first, Given, row1-short, row1-offsets, row2, row3, row4, row5, row6, row7, row8, row8-output, row9, row10, tableRows, SoundFile}
 use Rattle.meaning.specs.Packing.{packedCount, packedSpans}
-use Rattle.meaning.specs.Calls.{refused, gives, isTable, degreeRows, headingDegree, subtermRows, nearerRows, degrees, zeros, facesIn, inputRows, searchRows, matchRows, matched, laterSpans, writerRows, written, laterOutput}
+use Rattle.meaning.specs.Calls.{Answer, refused, gives, isTable, degreeRows, headingDegree, subtermRows, nearerRows, degrees, zeros, facesIn, inputRows, searchRows, matchRows, matched, laterSpans, writerRows, written, laterOutput}
 use Rattle.meaning.specs.Demands.{WritesTerm, WritesPattern, Accepted}
 use Rattle.meaning.specs.Tables.{degreeAt, Bytes}
 use Rattle.meaning.specs.Matching.{InSpan}
@@ -73,13 +73,17 @@ pub met-unlisted : SoundFile pairless
 unfolding tableRows row1-short row1-offsets row2 row3 row4 aritiesIn pairsIn
 met-unlisted = (refl, λ k l h d m e. absurd (not-suc-le-zero m))
 
--- .. and a file that is refused for nothing but its second pair's degree
+-- .. and a file and pairs that are refused for nothing but a degree
 abbrev topped : List ℕ
 topped = fileOf (zeros 3) (pair 0 1 999 ∷ pair 1 2 1000 ∷ [])
 
 pub met-topped : (1 < pairCount topped) × (1000 ≤ degreeAt topped 1) × ((n place : ℕ) → isTable topped ≡ refused n place → (3 < n) × (1 ≤ place))
-unfolding isTable tableRows row1-short row1-offsets row2 row3 row4 aritiesIn pairsIn fileOf
-met-topped = (lit< tt, lit≤ tt, λ n place e. let q : n ≡ 4 = cc in let r : place ≡ 1 = cc in (omega arith, omega arith))
+    × ((n place : ℕ) → written arities (pair 5 6 999 ∷ pair 5 7 1000 ∷ []) (zeros 66) ≡ refused n place → (3 < n) × (1 ≤ place))
+unfolding isTable tableRows row1-short row1-offsets row2 row3 row4 row8-output aritiesIn pairsIn fileOf written writerRows
+met-topped = (lit< tt, lit≤ tt, at-one, at-one)
+  where
+    at-one : {A : Type 0} (n place : ℕ) → _≡_ {A = Answer A} (refused 4 1) (refused n place) → (3 < n) × (1 ≤ place)
+    at-one n place e = let q : 4 ≡ n = cc in let r : 1 ≡ place = cc in (omega arith, omega arith)
 
 -- Further, headings: two that have a degree, two of which one is longer, a subterm, and two candidates of which one is nearer
 pub met-headings : (headingDegree T (1 ∷ 5 ∷ []) (4 ∷ 7 ∷ []) ≡ gives 700) × (headingDegree T (1 ∷ 5 ∷ []) (5 ∷ []) ≡ gives 0) × (first (subtermRows T h) ≡ none) × (1 < length h)

@@ -7,11 +7,12 @@ use Prim.Native.Nat.{ℕ, _≤_, _<_}
 use lib.ListN.{length, getD}
 use Rattle.theory.specs.Tree.{Term, Pattern}
 use Rattle.theory.specs.Table.{Table}
+use Rattle.theory.specs.Pairs.{Pair}
 use Rattle.meaning.specs.File.{tableIn}
 use Rattle.meaning.specs.Refusals.{first, SoundFile}
 use Rattle.meaning.specs.Calls.{Answer, gives, degreeRows, aye, Degrees, degrees, Matched}
 use Rattle.meaning.specs.Demands.{WritesTerm, WritesPattern, Accepted}
-use Rattle.meaning.specs.Tables.{TableFile, TopNotListed, SymbolDegrees, ReadBack, RoundTrip}
+use Rattle.meaning.specs.Tables.{TableFile, TopNotListed, TopNotWritten, SymbolDegrees, ReadBack, RoundTrip}
 use Rattle.meaning.specs.Parts.{TermLists, Subterms, Nearest}
 use Rattle.meaning.specs.Matching.{Reasons, SetsAndDegrees, PackedInOrder, NoOverlap}
 use Rattle.meaning.specs.TopCut.{MatchersMakeIt, AtTopCut}
@@ -42,6 +43,7 @@ pub record Further (P : Program) : Type 0 where
   -- tables
   pub recognised : (file : List ℕ) → P .isTable file ≡ gives aye ↔ TableFile file
   pub top-not-listed : (file : List ℕ) → TopNotListed file (P .isTable file)
+  pub top-not-written : (arities : List ℕ) (pairs : List Pair) (output : List ℕ) → TopNotWritten pairs (P .writeTable arities pairs output .answer)
   pub symbol-degrees : (table : List ℕ) → SoundFile table → SymbolDegrees table (P .symbolDegree table)
   pub reads-back : (table : List ℕ) → SoundFile table → ReadBack table (P .arityOf table) (P .pairOf table)
   pub round-trip : RoundTrip (P .writeTable)

@@ -1,24 +1,20 @@
 -- A file is not refused exactly if it is a table: no row holds exactly if what each tests is so, and what the rows test of the lists that
 -- are read holds of the bytes where they stand.
-use mathlib.Core.Path.{_≡_, refl, sym as inv, ap, ap₂, _∙_, subst}
-use mathlib.Core.List.{List, [], _∷_}
-use mathlib.Core.Bool.{false}
-use mathlib.Core.Option.{Option, none, some as just, Option·some-ne-none}
+use mathlib.Core.Path.{_≡_, sym as inv, _∙_, subst}
+use mathlib.Core.List.{List}
 use Prim.Native.Nat.{ℕ, suc, _≤_, _<_}
-use native.Mathlib.Decide.{decLt}
 use native.Mathlib.Omega.{arith}
 use lib.ListN.{length, getD}
 use borrow.Author.Tests.{not-false}
 use Rattle.theory.specs.Pairs.{pair, SoundPair}
-use Rattle.theory.proofs.Lemmas.{all-getD, both-false, LeastAt, least-just}
+use Rattle.theory.proofs.Lemmas.{all-getD}
 use Rattle.meaning.specs.Limits.{mostArguments}
 use Rattle.meaning.specs.File.{symbolCount, pairCount, aritiesIn, pairAt, pairsIn}
-use Rattle.meaning.specs.Refusals.{Refusal, refusal, row, rowPlace, first, unordered, rises, badPair, row1-short, row1-offsets, row2, row3, row4, tableRows, SoundFile}
-use Rattle.meaning.specs.Calls.{refused, unless, aye, isTable}
-use Rattle.meaning.specs.Tables.{pairStart, lowerAt, higherAt, ListedWell, StandsBefore, TableFile, Recognised, TopNotListed}
+use Rattle.meaning.specs.Refusals.{SoundFile, rises, tableRows}
+use Rattle.meaning.specs.Tables.{pairStart, lowerAt, higherAt, ListedWell, StandsBefore, TableFile, Recognised}
 use Rattle.meaning.proofs.First.{silent-first}
 use Rattle.meaning.proofs.Bytes.{pair-in, arity-in}
-use Rattle.meaning.proofs.Sound.{Passed, passed, sound-pair, length-pairsIn, length-arities, length-aritiesIn}
+use Rattle.meaning.proofs.Sound.{Passed, passed, length-pairsIn, length-arities, length-aritiesIn}
 use Rattle.meaning.proofs.Rising.{After, rises-after}
 use Rattle.meaning.proofs.Silent.{silent-short, silent-counts, silent-offsets, silent-arities, silent-pairs}
 
@@ -116,38 +112,3 @@ module _ (file : List ℕ) (t : TableFile file) where
 -- THEOREM: which files are tables
 pub recognised : Recognised
 recognised file = (is-table file, not-refused file)
-
--- ---- a degree of 1000 is refused at its pair
-
--- of the table's rows only 4 has a number above 3
-is-four : (a b c d e : Option ℕ) (n place : ℕ) → first (row 1 a ∷ row 2 b ∷ row 1 c ∷ row 3 d ∷ row 4 e ∷ []) ≡ just (refusal n place) → 3 < n
-    → (n ≡ 4) × (e ≡ just place)
-is-four (just i) b c d e n place q l = let z : _≡_ {A = ℕ} 1 n = cc in absurd (omega arith)
-is-four none (just i) c d e n place q l = let z : _≡_ {A = ℕ} 2 n = cc in absurd (omega arith)
-is-four none none (just i) d e n place q l = let z : _≡_ {A = ℕ} 1 n = cc in absurd (omega arith)
-is-four none none none (just i) e n place q l = let z : _≡_ {A = ℕ} 3 n = cc in absurd (omega arith)
-is-four none none none none (just i) n place q l = (cc, cc)
-is-four none none none none none n place q l = absurd (Option·some-ne-none (refusal n place) (inv q))
-
--- THEOREM: 4 is given at the first pair that may not stand there, so a pair with 1000 is not passed over
-pub top-not-listed : (file : List ℕ) → TopNotListed file (isTable file)
-unfolding isTable tableRows row1-short row1-offsets row2 row3 row4
-top-not-listed file k l d h = go (first (tableRows file)) refl
-  where
-    -- pair k does not pass
-    passes : badPair (aritiesIn file) (pairsIn file) k ≡ false → ⊥
-    passes e =
-        let s = sound-pair (aritiesIn file) (getD (pairsIn file) k (pair 0 0 0)) (both-false _ (unordered (pairsIn file) k) e .0) in
-        let t = subst (SoundPair (aritiesIn file)) (pair-in file k l) s in
-        omega (arith, t .4)
-
-    go : (o : Option Refusal) → first (tableRows file) ≡ o → isTable file ≡ refused 4 k
-    go none e = absurd (omega (arith, recognised file .0 e .pairs k l .at-most-top))
-    go (just (refusal n place)) e =
-        let b = h n place (ap (λ o. unless o aye) e) in
-        let f = is-four (rowPlace (row1-short file)) (rowPlace (row2 (symbolCount file) (pairCount file))) (rowPlace (row1-offsets file)) (rowPlace (row3 (aritiesIn file))) _ n place e (b .0) in
-        ap (λ o. unless o aye) e ∙ ap₂ refused (f .0) (there (decLt k place) (b .1) (least-just (length (pairsIn file)) (badPair (aritiesIn file) (pairsIn file)) place (f .1)))
-      where
-        there : Dec (k < place) → k ≤ place → LeastAt (badPair (aritiesIn file) (pairsIn file)) place → place ≡ k
-        there (yes m) c q = absurd (passes (q .least k m))
-        there (no m) c q = omega arith

@@ -1,5 +1,5 @@
 -- What is said of tables: which files are tables, the degrees of their symbols, reading back and writing. Statements; the proofs are in
--- proofs/Recognised, proofs/Sound, proofs/Degrees, proofs/Back and proofs/RoundTrip.
+-- proofs/Recognised, proofs/NotListed, proofs/Sound, proofs/Degrees, proofs/Back and proofs/RoundTrip.
 use mathlib.Core.Path.{_≡_}
 use mathlib.Core.Logic.{_↔_, _⊎_}
 use mathlib.Core.List.{List, _++_}
@@ -60,10 +60,16 @@ pub record TableFile (file : List ℕ) : Type 0 where
 abbrev pub Recognised : Type 0
 Recognised = (file : List ℕ) → SoundFile file ↔ TableFile file
 
--- A pair with a degree of 1000 or more is refused by 4 at that pair, unless the file is refused by 1 to 3, or by 4 at a pair before it.
+-- It is refused by 4 at pair k, unless it is refused by 1 to 3, or at a pair before k.
+abbrev pub RefusedThere : {A : Type 0} → ℕ → Answer A → Type 0
+RefusedThere k answer = ((n place : ℕ) → answer ≡ refused n place → (3 < n) × (k ≤ place)) → answer ≡ refused 4 k
+
+-- So it is with a pair that has a degree of 1000 or more, in a file that is read and in pairs that are to be written.
 abbrev pub TopNotListed : List ℕ → Answer Yes → Type 0
-TopNotListed file answer =
-    (k : ℕ) → k < pairCount file → 1000 ≤ degreeAt file k → ((n place : ℕ) → answer ≡ refused n place → (3 < n) × (k ≤ place)) → answer ≡ refused 4 k
+TopNotListed file answer = (k : ℕ) → k < pairCount file → 1000 ≤ degreeAt file k → RefusedThere k answer
+
+abbrev pub TopNotWritten : List Pair → Answer ℕ → Type 0
+TopNotWritten pairs answer = (k l h d : ℕ) → k < length pairs → getD pairs k (pair 0 0 0) ≡ pair l h d → 1000 ≤ d → RefusedThere k answer
 
 -- ---- what a table that is not refused holds
 
