@@ -6,10 +6,10 @@
  *
  * A table has up to 256 symbols, numbered from 0. Each has an arity, the number of arguments that it takes, 0 to 8. A degree says how near two
  * symbols are, in thousandths: a symbol has 1000 with itself, two symbols that the table lists as a pair have the pair's degree, in either order,
- * which is 1 to 999, and any other two have 0; so at cut 1000 only the same is found. Nearness is not passed on: that a is near b and b near c says nothing of a and c. A table is lent as the bytes of a
- * table file, which shx_write_table makes and docs/FORMATS.md describes.
+ * which is 1 to 999, and any other two have 0; so at cut 1000 only the same is found. Nearness is not passed on: that a is near b and b near c
+ * says nothing of a and c. A table is lent as the bytes of a table file, which shx_write_table makes and docs/FORMATS.md describes.
  *
- * A term is a list of 16-bit nodes in preorder: a symbol, then its arguments one after the other. A node below the number of symbols is a symbol;
+ * A term is lent as its nodes in preorder, 16 bits each: a symbol, then its arguments one after the other. A node below the number of symbols is a symbol;
  * 32768 to 32799 are the variables 0 to 31; any other number is neither. A term has 1 to 1024 nodes and is at most 64 deep (one node alone has
  * depth 1). A heading is a term without variables, a pattern may have some.
  *
@@ -97,13 +97,13 @@ uint32_t shx_arity(const uint8_t *table, size_t table_len, uint16_t symbol, uint
 /* Stores the pair at an index of the table's list, counted from 0. Refusals 1 to 4 and 14. */
 uint32_t shx_pair(const uint8_t *table, size_t table_len, uint16_t index, uint16_t *lower, uint16_t *higher, uint16_t *degree);
 
-/* Stores the degree of two headings. Refusals 1 to 4, 6 for the first heading and 7 for the second. */
+/* Stores how near two headings are. Refused by 1 to 4 for the table, by 6 for the first heading, by 7 for the second. */
 uint32_t shx_heading_degree(
     const uint8_t *table, size_t table_len, const uint16_t *first, size_t first_len, const uint16_t *second, size_t second_len, uint16_t *degree);
 
 /*
- * Returns how many nodes the subterm has that starts at an index of a term; it is term[index] and the nodes behind it. 0 where the table or the
- * term is refused or no node has that index: the empty part at the list's start. Variables are permitted.
+ * Returns how many nodes the subterm has that starts at an index of a term; it is term[index] and the nodes behind it. 0, for the empty part where
+ * the list begins, if there is no such node or one of the two is refused. Variables are permitted.
  */
 size_t shx_subterm(const uint8_t *table, size_t table_len, const uint16_t *term, size_t term_len, size_t index);
 

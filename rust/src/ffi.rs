@@ -26,7 +26,7 @@ extern "C" {
         second_len: usize,
         degree: *mut u16,
     ) -> u32;
-    /// How many nodes the subterm has that begins at the index; 0 for the empty part at the list's start.
+    /// How many nodes the subterm has that begins at the index; 0 where there is none.
     pub fn shx_subterm(table: *const u8, table_len: usize, term: *const u16, term_len: usize, index: usize) -> usize;
     /// 0 where something is refused, 1 for the first candidate, 2 for the second.
     pub fn shx_nearer(

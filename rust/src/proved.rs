@@ -58,8 +58,8 @@ pub fn heading_degree(table: &[u8], first: &[u16], second: &[u16]) -> Answer<u16
     Ok(degree)
 }
 
-/// The subterm at an index, as that part of the term; the empty part at the term's start if the table or the term is refused or no
-/// node has the index.
+/// The subterm at an index, as that part of the term. Where there is no such node, and where one of the two lists is refused, it is the empty
+/// part at the term's start.
 pub fn subterm<'a>(table: &[u8], term: &'a [u16], index: usize) -> &'a [u16] {
     let nodes = unsafe { ffi::shx_subterm(table.as_ptr(), table.len(), term.as_ptr(), term.len(), index) };
     if nodes == 0 {

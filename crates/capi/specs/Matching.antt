@@ -5,7 +5,7 @@ use Prim.Native.Nat.{ℕ}
 use Rattle.meaning.specs.Calls.{matched, lowestIn, highestIn, laterSpans, laterSets}
 use Rattle.capi.specs.Answers.{coded}
 
--- ---- 6. The match of a pattern and a heading at a cut. Its degrees are told on a refusal too, where they are 0; so what the two numbers
+-- ---- 6. The match. Its degrees are told on a refusal too, where they are 0; so what the two numbers
 -- held before plays no part.
 
 pub record ShxMatch (table pattern heading : List ℕ) (cut : ℕ) (spans sets : List ℕ) (r : ℕ) (spans′ sets′ : List ℕ) (lowest′ highest′ : ℕ) : Type 0 where

@@ -4,7 +4,7 @@ use crate::answer::refused;
 use matches::match_heading;
 use matching::search::Outcome;
 
-// The match of a pattern and a heading at a cut, with its degrees; 0 and 0 where it is refused.
+// The match, with its degrees; 0 and 0 where it is refused.
 #[no_mangle]
 pub extern "C" fn shx_match(
     table: &[u8],

@@ -49,7 +49,7 @@ module _ (P : Program) where
     pub writes-nothing-fails : ((table pattern heading : List ℕ) (cut : ℕ) (spans sets : List ℕ) → P .match table pattern heading cut spans sets .spans ≡ spans) → ⊥
     writes-nothing-fails w = writes-nothing (listed 500) (w T p h 500 (zeros 64) (zeros 20)) (demanded .0)
 
-    -- 4. it walks the first occurrence of a variable and passes over the rest: at 601 the listing's sets would be {1, 4} and {5, 7}
+    -- 4. of what faces a variable it sees the first alone: at 601 the listing's sets would be {1, 4} and {5, 7}
     pub first-only-fails : listed 601 .spans ≡ (0 ∷ 2 ∷ []) ++ zeros 62 → listed 601 .sets ≡ (18 ∷ 0 ∷ 0 ∷ 0 ∷ 160 ∷ []) ++ zeros 15 → ⊥
     first-only-fails e f = first-only (listed 601) e f (demanded .1)
 

@@ -2,8 +2,8 @@
 -- substitution brings the pattern to the cut; otherwise its matchers are just the substitutions drawn from the buffers, and its two degrees are
 -- the lowest and the highest that a matcher has.
 --
--- `DegreeOf` and `MatchOf` say that of one result, over the trees that the lists write (meaning/specs/Demands). A substitution gives each variable
--- that stands in the pattern one ground term over the table's symbols, of any size (`Matcher`, theory/specs/Table); what is drawn from the buffers is
+-- `DegreeOf` and `MatchOf` say that of one result, over the trees that the lists write (meaning/specs/Demands). What a substitution
+-- gives to a variable of the pattern is a ground term over the table, of any size (`Matcher`, theory/specs/Table); what is drawn from the buffers is
 -- read off spans and bits (`DrawnFrom`, meaning/specs/Buffers).
 use mathlib.Core.Path.{_≡_}
 use mathlib.Core.List.{List}

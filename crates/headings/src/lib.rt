@@ -40,7 +40,7 @@ pub fn degree_of_headings(table: &[u8], first: &[u16], second: &[u16]) -> Degree
     }
 }
 
-// The subterm at an index of a term, as that part of the list; the empty part at its start where there is none.
+// The part of the list that is the subterm at an index; the empty part at its start where there is none.
 pub fn subterm<'a>(table: &[u8], term: &'a [u16], index: usize) -> &'a [u16]
     ensures { λ r. ⌜ Subterm (now (table .entry)) (term .entry) index r ⌝ }
 {

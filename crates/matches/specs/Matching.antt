@@ -9,7 +9,7 @@ use Rattle.meaning.specs.Calls.{matched, laterSpans, laterSets}
 use Rattle.matching.specs.Outcomes.{saidMatch}
 use Rattle.matching.specs.declared.search.Outcome.{Outcome}
 
--- ---- 6. The match of a pattern and a heading at a cut: its answer, and what the two buffers hold later.
+-- ---- 6. The match: its answer, and what the two buffers hold later.
 
 pub record MatchHeading (table pattern heading : List ℕ) (cut : ℕ) (spans sets : List ℕ) (r : Outcome) (spans′ sets′ : List ℕ) : Type 0 where
   pub answers : saidMatch r ≡ matched table pattern heading cut spans sets

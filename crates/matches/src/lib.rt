@@ -1,4 +1,4 @@
-// The match of a pattern and a heading at a cut. It takes any bytes and any lists; its answer, and what it leaves in both buffers, are fixed
+// The match. It takes any bytes, any lists and any cut; its answer, and what it leaves in both buffers, are fixed
 // by its promise in specs/.
 mod memory;
 

@@ -1,3 +1,3 @@
-// The match of a pattern and a heading that are sound: what comes of the variables that are packed.
+// The match of sound lists: what comes of the variables that are packed.
 pub mod clear;
 pub mod search;

@@ -1,4 +1,4 @@
-// The match of a pattern and a heading that are sound, at a cut, in buffers that have room.
+// The match of sound lists at a sound cut, in buffers that have room.
 ghost use mathlib.Core.Path.{_≡_};
 ghost use Prim.Native.Nat.{_*_, _≤_};
 ghost use lib.ListN.{length};

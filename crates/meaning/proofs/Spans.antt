@@ -106,7 +106,7 @@ module _ (table pattern heading : List ℕ) (cut : ℕ) (spans sets : List ℕ) 
     clear : All (Clear T cut) fs
     clear = none-clear T cut fs (given-none _ _ _ (match-ends table pattern heading cut spans sets accepted r) e .0 .clear)
 
-    -- LAW: the variables are packed in the order in which they first stand in the pattern
+    -- LAW: the variable that the pattern has first is packed first, and so on
     pub in-order : order fs ≡ firsts (standing p)
     in-order = ap firsts (variables-standing T (r .lawful) cut (r .positive) p h op (r .heading-is .holds .over) clear)
 

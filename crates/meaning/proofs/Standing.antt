@@ -1,5 +1,5 @@
--- Which variables are packed, and in which order: those that stand in the pattern, each once, and where nothing clashes in the order in which
--- they first stand there; so every position that is packed is one of some variable's.
+-- Which variables are packed, and in which order: those that stand in the pattern, each once, and where nothing clashes as the pattern has them;
+-- so every position that is packed is one of some variable's.
 use mathlib.Core.Path.{_≡_, refl, sym as inv, ap, ap₂, _∙_}
 use mathlib.Core.List.{List, [], _∷_, _++_}
 use mathlib.Core.Bool.{Bool, true, false, cond, false≢true}

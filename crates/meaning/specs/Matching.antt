@@ -50,8 +50,8 @@ abbrev mutual
   standings ∅ₚ = []
   standings (p ▸ ps) = standing p ++ standings ps
 
--- Where an answered match has packed its variables: one that does not stand in the pattern has 0 and 0; the others follow one another without
--- gaps, in the order in which they first stand there.
+-- Where an answered match has packed its variables: one that does not stand in the pattern has 0 and 0; each of the others begins where those end
+-- that the pattern has before it.
 pub record PackedInOrder (p : Pattern) (r : Matched) : Type 0 where
   pub absent : (v : ℕ) → v < variableCount → stands v p ≡ false → (firstPosition (r .spans) v ≡ 0) × (positionCount (r .spans) v ≡ 0)
   pub starts : (v : ℕ) → stands v p ≡ true → firstPosition (r .spans) v ≡ startIn (positionCount (r .spans)) v (firsts (standing p))

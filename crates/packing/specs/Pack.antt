@@ -55,7 +55,7 @@ pub record PackedNext (T : Table) (cut : ℕ) (fs : List Face) (v : ℕ) (before
   pub span : spans′ ≡ over spans (spanWidth * v) (before .packed ∷ countOf fs v ∷ [])
   pub words : sets′ ≡ over sets (setWords * before .packed) (allWords (through (countOf fs v) (λ k. inSet T cut (facing v fs) k ∷ [])))
 
--- All variables are packed, in the order in which they first stand. These are the spans later, and the sets before and later.
+-- All variables are packed, as the pattern has them. These are the spans later, and the sets before and later.
 pub record PackedAll (T : Table) (cut : ℕ) (fs : List Face) (r : Search) (spans sets sets′ : List ℕ) : Type 0 where
   pub packed : r .packed ≡ packedCount fs
   pub lacking : r .lacking ≡ worst (unformed T cut fs) (order fs)

@@ -77,7 +77,7 @@ fn pack_next(
     }
 }
 
-// Packs every variable of the pattern, in the order in which they first stand. `near` is lent for the near sets of all symbols, the two lists
+// Packs every variable of the pattern, each where it is first met. `near` is lent for the near sets of all symbols, the two lists
 // of its own for the notes of one variable at a time.
 pub fn pack(
     table: &[u8],

@@ -1,4 +1,4 @@
--- The matchers of a pattern and a heading at a cut are the substitutions that are drawn from the sets.
+-- A substitution is a matcher exactly if it is drawn from the sets.
 use mathlib.Core.Path.{_≡_, refl, sym as inv, ap, _∙_, subst}
 use mathlib.Core.Logic.{_↔_, _⊎_, inl, inr}
 use mathlib.Core.List.{List, [], _∷_, _++_}

@@ -1,4 +1,4 @@
--- What a match of a pattern and a heading at a cut answers, computed from what faces what.
+-- What a match answers, computed from what faces what.
 --
 -- `fs` is `faces p h` throughout: the pattern's nodes in preorder, each with what faces it.
 use mathlib.Core.Path.{_≡_}
@@ -43,8 +43,8 @@ module _ (T : Table) where
   abbrev pub shared : List Term → ℕ → ℕ → ℕ
   shared ts k s = least (λ t. T .deg s (at t k)) ts
 
-  -- The set at position k of a variable that the terms ts face: the symbols whose degree reaches the cut with the symbol at that
-  -- position of each.
+  -- The set at position k of a variable that the terms ts face: the symbols that are near enough to what each of ts has
+  -- there.
   abbrev pub inSet : ℕ → List Term → ℕ → ℕ → Bool
   inSet c ts k s = ltb s (T .size) && leb c (shared ts k s)
 
@@ -52,7 +52,7 @@ module _ (T : Table) where
   abbrev pub formed : ℕ → List Term → Bool
   formed c ts = every (positions ts) (λ k. some (T .size) (inSet c ts k))
 
-  -- The place of a clash: the first node, in preorder, whose symbol has a degree below the cut with the symbol that faces it.
+  -- The place of a clash: the pattern's first node, in preorder, whose symbol is not near enough to the one that it faces.
   abbrev pub clash : ℕ → List Face → Option ℕ
   clash c [] = none
   clash c (meets f g ∷ fs) = cond (ltb (T .deg f g) c) (just 0) (oneOn (clash c fs))

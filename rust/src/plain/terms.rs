@@ -54,7 +54,7 @@ fn check(nodes: &[u16], arity: impl Fn(u16) -> Option<u8>) -> Result<(), usize> 
     }
 }
 
-/// How many nodes the subterm at an index of a term has.
+/// How many nodes a subterm has, by its index.
 #[inline]
 pub fn nodes_at(table: &Table, term: &[u16], index: usize) -> usize {
     let mut to_come = 1;

@@ -1,4 +1,4 @@
--- After i turns the variables of the first i nodes are packed, in the order in which they first stand there: a variable's node whose span is
+-- After i turns the variables of the first i nodes are packed, each where it is first met: a variable's node whose span is
 -- empty is packed, and any other node is passed over.
 use borrow.Author.Needs.{needs}
 use mathlib.Core.Path.{_≡_, refl, sym as inv, ap, _∙_}

@@ -23,7 +23,7 @@ const SMALL: usize = 1000;
 const LARGE: usize = 5;
 const CUT: u16 = 500;
 
-/// The match of a pattern and a heading that is expected to come out in this way.
+/// What a match is asked, and how it is expected to come out.
 struct Question {
     table: Table,
     pattern: Vec<u16>,
