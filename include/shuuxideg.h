@@ -37,6 +37,7 @@
  *    8   spans or sets are too short; the output is shorter than the file     0                                  shx_match; shx_write_table
  *    9   a symbol of the pattern is not near enough to the one it faces       the first such node's index        shx_match
  *   10   no one term is near enough to all that faces some variable           the least such variable's number   shx_match
+ *   13   one of the two numbers is no symbol of the table                     0 for the first, else 1            shx_symbol_degree
  *   14   no symbol has that number, or no pair that index                     0                                  shx_arity; shx_pair
  *
  * The place of a fault in a list of nodes: 1024 where the list has more nodes than that; otherwise the first index at which the term had already
@@ -88,7 +89,8 @@ struct shx_pair_record {
 /* Is this a table? Refusals 1 to 4. */
 uint32_t shx_table(const uint8_t *table, size_t table_len);
 
-/* Stores the degree of two symbol numbers; a number that is no symbol has degree 0 with every number, itself too. Refusals 1 to 4. */
+/* Stores the degree of two symbol numbers. A number that is no symbol of the table is refused, at 0 or 1 for the first or the second (0 if neither
+ * is one); degree 0 is for two symbols that are not near. Refusals 1 to 4 and 13. */
 uint32_t shx_symbol_degree(const uint8_t *table, size_t table_len, uint16_t a, uint16_t b, uint16_t *degree);
 
 /* Stores how many arguments a symbol takes. Refusals 1 to 4 and 14. */

@@ -122,7 +122,7 @@ class Cases:
         self.add(WRITE, bytes(arities), [pairs], [room], write_text(arities, pairs, room), told)
 
     def symbol_degree(self, table, a, b, told=None):
-        answer = answered('degree %d', lambda: reference.read_table(table).degree(a, b))
+        answer = answered('degree %d', lambda: reference.symbol_degree(reference.read_table(table), a, b))
         self.add(SYMBOL_DEGREE, table, [], [a, b], answer, told)
 
     def degree(self, table, first, second, told=None):

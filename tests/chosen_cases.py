@@ -58,15 +58,21 @@ def tables(cases):
     for a in range(9):
         for b in range(9):
             cases.symbol_degree(T, a, b)
-    for a, b in (32768, 32768), (65535, 0), (0, 65535), (263, 7):
-        cases.symbol_degree(T, a, b, 'degree 0')
+    for a, b, place in (32768, 32768, 0), (65535, 0, 0), (0, 65535, 1), (263, 7, 0), (7, 263, 1), (8, 8, 0), (8, 9, 0), (8, 7, 0), (7, 8, 1):
+        cases.symbol_degree(T, a, b, 'refused 13 %d' % place)
+    cases.degree(T, [8], [8], 'refused 6 0')                          # 13 is for the degree of two symbol numbers
+    cases.degree(T, [5], [8], 'refused 7 0')
     for table, told in UNSOUND + [(b'', 'refused 1 0')]:
         cases.symbol_degree(table, 5, 7, told)
+        cases.symbol_degree(table, 65535, 65535, told)                # the table's fault is told before 13
+        cases.symbol_degree(table, 0, 65535, told)
         cases.degree(table, [5, 5], [], told)
         cases.match(table, [], [X], 0, told, spans=0, sets=0)
     wide = wide_table()
-    for a, b, told in (2, 255, 657), (255, 2, 657), (255, 255, 1000), (256, 256, 0), (127, 128, 655), (1, 0, 900), (3, 4, 0):
+    for a, b, told in (2, 255, 657), (255, 2, 657), (255, 255, 1000), (127, 128, 655), (1, 0, 900), (3, 4, 0):
         cases.symbol_degree(wide, a, b, 'degree %d' % told)
+    for a, b, place in (256, 256, 0), (256, 255, 0), (255, 256, 1):
+        cases.symbol_degree(wide, a, b, 'refused 13 %d' % place)
     largest = largest_table()
     last = reference.read_table(largest).pairs[-1]
     cases.symbol_degree(largest, last[1], last[0], 'degree %d' % last[2])

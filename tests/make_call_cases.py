@@ -62,7 +62,8 @@ def drawn(cases, seed):
         heading = damaged(draw, heading)
     kind = draw.below(10)
     if kind == 0:
-        cases.symbol_degree(data, draw.one(used), draw.one(used))
+        asked = used if draw.chance(70) else range(len(table.arities) + 3)
+        cases.symbol_degree(data, draw.one(asked), draw.one(asked))
     elif kind == 1:
         cases.degree(data, heading, one)
     elif kind == 2:

@@ -21,9 +21,7 @@ class Table:
             self.listed[lower, higher] = self.listed[higher, lower] = degree
 
     def degree(self, a, b):
-        """The degree of two symbol numbers, in thousandths."""
-        if a >= len(self.arities) or b >= len(self.arities):
-            return 0
+        """The degree of two symbols of the table, in thousandths."""
         return 1000 if a == b else self.listed.get((a, b), 0)
 
 
@@ -70,6 +68,14 @@ def read_back(listed, index):
     if index >= len(listed):
         raise Refused(14, 0)
     return listed[index]
+
+
+def symbol_degree(table, *symbols):
+    """The degree of two numbers that should be symbols of the table."""
+    for place, symbol in enumerate(symbols):
+        if symbol >= len(table.arities):
+            raise Refused(13, place)
+    return table.degree(*symbols)
 
 
 def two_bytes(n):

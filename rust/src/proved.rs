@@ -18,7 +18,7 @@ pub fn check_table(table: &[u8]) -> Answer<()> {
     accepted(unsafe { ffi::shx_table(table.as_ptr(), table.len()) })
 }
 
-/// The degree of two symbol numbers; 0 if one is not in the table. Refusals 1 to 4.
+/// How near two symbols are. Refusals 1 to 4, and 13 at 0 or 1: the first of the two numbers that is no symbol of the table.
 pub fn symbol_degree(table: &[u8], a: u16, b: u16) -> Answer<u16> {
     let mut degree = 0;
     accepted(unsafe { ffi::shx_symbol_degree(table.as_ptr(), table.len(), a, b, &mut degree) })?;

@@ -26,7 +26,9 @@ use Rattle.meaning.proofs.NoOverlap.{no-overlap}
 use Rattle.meaning.proofs.TopCut.{matchers-make-it, same-heading, at-top-cut}
 use Rattle.demands.specs.Further.{MatchSays, Further}
 use Rattle.demands.proofs.Meant.{meant}
+use Rattle.demands.proofs.Demand1.{demand1}
 use Rattle.demands.proofs.Paired.{lowest-paired, higher-handed}
+use Rattle.demands.proofs.NamedAlone.{named-alone}
 
 is-table : (file : List ℕ) → isTable file ≡ gives aye ↔ TableFile file
 unfolding isTable
@@ -74,6 +76,7 @@ further =
       top-not-listed = top-not-listed;
       top-not-written = top-not-written;
       symbol-degrees = symbol-degrees;
+      named-there-alone = named-alone meant demand1;
       reads-back = reads-back;
       round-trip = round-trip;
       terms = terms;

@@ -59,19 +59,19 @@ bytes : Bytes T
 unfolding written laterOutput writerRows row2 row3 row4 row8-output fileOf
 bytes = round-trip .read-written arities pairs (zeros 66) .is-bytes 66 refl
 
--- Further, tables: a table with symbols and pairs, of bytes; and what the writer takes
-pub met-tables : SoundFile T × (0 < symbolCount T) × (0 < pairCount T) × Bytes T × (length T ≤ length (zeros 66)) × (written arities pairs (zeros 66) ≡ gives 66)
+-- Further, tables: a table with symbols and pairs, of bytes, and a number that is no symbol; and what the writer takes
+pub met-tables : SoundFile T × (0 < symbolCount T) × (symbolCount T ≤ 8) × (0 < pairCount T) × Bytes T × (length T ≤ length (zeros 66)) × (written arities pairs (zeros 66) ≡ gives 66)
 unfolding tableRows row1-short row1-offsets row2 row3 row4 row8-output aritiesIn pairsIn written writerRows
-met-tables = (refl, lit< tt, lit< tt, bytes, lit≤ tt, refl)
+met-tables = (refl, lit< tt, lit≤ tt, lit< tt, bytes, lit≤ tt, refl)
 
 -- .. and two symbols that are not listed, in a table of two symbols and no pairs
 abbrev pairless : List ℕ
 pairless = 2 ∷ 0 ∷ 0 ∷ 0 ∷ 10 ∷ 0 ∷ 12 ∷ 0 ∷ 12 ∷ 0 ∷ 0 ∷ 0 ∷ []
 
-pub met-unlisted : SoundFile pairless
+pub met-unlisted : SoundFile pairless × (0 < symbolCount pairless) × (1 < symbolCount pairless)
     × ((k l h d : ℕ) → k < pairCount pairless → getD (pairsIn pairless) k (pair 0 0 0) ≡ pair l h d → isPair l h 0 1 ≡ false)
 unfolding tableRows row1-short row1-offsets row2 row3 row4 aritiesIn pairsIn
-met-unlisted = (refl, λ k l h d m e. absurd (not-suc-le-zero m))
+met-unlisted = (refl, lit< tt, lit< tt, λ k l h d m e. absurd (not-suc-le-zero m))
 
 -- .. and a file and pairs that are refused for nothing but a degree
 abbrev topped : List ℕ

@@ -5,6 +5,7 @@ pub mod Meant
 pub mod Demand1
 pub mod Demands
 pub mod Paired
+pub mod NamedAlone
 pub mod Further
 pub mod Keeps
 pub mod Public

@@ -14,13 +14,16 @@ use borrow.Author.Tests.{lt-ltb, le-ltb}
 use Rattle.theory.specs.Tree.{Term, node, enc}
 use Rattle.theory.specs.Table.{degree}
 use Rattle.theory.proofs.Flat.{flat, degree-flat}
-use Rattle.meaning.specs.File.{tableIn}
+use Rattle.theory.proofs.Draw.{over-at}
+use Rattle.meaning.specs.File.{symbolCount, tableIn}
 use Rattle.meaning.specs.Refusals.{first, row6, row7, tableRows, SoundFile}
 use Rattle.meaning.specs.Calls.{gives, symbolDegree, degreeRows, headingDegree, theFirst, theSecond, nearerRows, nearer}
-use Rattle.meaning.specs.Demands.{Demand2-degree}
+use Rattle.meaning.specs.Demands.{WritesTerm, Demand2-degree}
 use Rattle.meaning.proofs.First.{Silent, all-silent, silent-first, append-none, first-append, unless-gives}
-use Rattle.meaning.proofs.Sound.{sound}
+use Rattle.meaning.proofs.Sound.{passed, length-aritiesIn, sound}
+use Rattle.meaning.proofs.Degrees.{gives-degree}
 use Rattle.meaning.proofs.Trees.{demand2-degree}
+use Rattle.meaning.proofs.Drawn.{getD-any}
 use Rattle.demands.specs.Program.{handedBack}
 use Rattle.demands.specs.Further.{LowestPaired, HigherHanded}
 
@@ -86,9 +89,19 @@ module _ (table one two : List ℕ) (d : ℕ) (e : headingDegree table one two �
       ∙ degree-flat T (sound table (parts .0) .lawful) (q .t) (q .u) (q .writes-one .holds .over) (q .writes-two .holds .over)
       ∙ ap₂ (λ a b. flat (T .deg) a b) (inv (q .writes-one .holds .is)) (inv (q .writes-two .holds .is))
 
-  symbols : (a b n : ℕ) → tableIn table .deg a b ≡ n → symbolDegree table a b ≡ gives n
-  unfolding symbolDegree
-  symbols a b n k = rw (parts .0) (ap gives k)
+  -- what stands in a heading is a symbol of the table
+  in-table : (list : List ℕ) (t : Term) → WritesTerm (tableIn table) list t → (k : ℕ) → k < length list → getD list k 0 < symbolCount table
+  unfolding tableIn
+  in-table list t w k l =
+      let m : k < length (enc t) = omega (arith, ap length (w .is)) in
+      let o = over-at (tableIn table) t (w .over) k m in
+      let e = ap (λ x. getD x k 0) (w .is) ∙ getD-any (enc t) k 0 (tableIn table .size) m in
+      omega (arith, e, o, length-aritiesIn table (passed table (parts .0)))
+
+  symbols : (k n : ℕ) → k < length one → length one ≡ length two → tableIn table .deg (getD one k 0) (getD two k 0) ≡ n → symbolDegree table (getD one k 0) (getD two k 0) ≡ gives n
+  symbols k n l m =
+      gives-degree table (parts .0) (getD one k 0) (getD two k 0) n
+      (in-table one (q .t) (q .writes-one .holds) k l) (in-table two (q .u) (q .writes-two .holds) k (omega arith))
 
   some : 0 < length one
   some = omega (arith, ap length (q .writes-one .holds .is), some-node (q .t))
@@ -99,8 +112,8 @@ module _ (table one two : List ℕ) (d : ℕ) (e : headingDegree table one two �
       let deg = tableIn table .deg in
       record {
         one-longer = λ n. flat-is ∙ flat-longer deg one two n;
-        bounds = λ l k m n f. omega (arith, flat-is, flat-bounds deg one two l k m, same-number n (deg (getD one k 0) (getD two k 0)) (inv f ∙ symbols _ _ _ refl));
-        reached = λ l. let r = flat-reached deg (sound table (parts .0) .lawful .top) one two l some in (r .0, r .1, symbols _ _ d (r .2 ∙ inv flat-is));
+        bounds = λ l k m n f. omega (arith, flat-is, flat-bounds deg one two l k m, same-number n (deg (getD one k 0) (getD two k 0)) (inv f ∙ symbols k _ m l refl));
+        reached = λ l. let r = flat-reached deg (sound table (parts .0) .lawful .top) one two l some in (r .0, r .1, symbols (r .0) d (r .1) l (r .2 ∙ inv flat-is));
       }
 
 -- ---- the nearer of two candidates

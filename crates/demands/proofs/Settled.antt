@@ -2,7 +2,7 @@
 -- both give that refusal; where none does, the sentences on the call leave one value.
 use mathlib.Core.Path.{_≡_, refl, sym as inv, ap, ap₂, _∙_, subst}
 use mathlib.Core.Logic.{_⊎_, inl, inr}
-use mathlib.Core.List.{List}
+use mathlib.Core.List.{List, [], _∷_}
 use mathlib.Core.Bool.{Bool, true, false, _&&_}
 use mathlib.Core.Option.{Option, none, some as just, Option·some-ne-none, Option·some-injective}
 use Prim.Native.Nat.{ℕ, zero, suc, _≤_, _<_}
@@ -18,12 +18,12 @@ use Rattle.theory.specs.Pairs.{Pair, pair, isPair}
 use Rattle.theory.proofs.Lemmas.{and-left, and-right, last-or-below}
 use Rattle.theory.proofs.Verdict.{or-cases}
 use Rattle.meaning.specs.File.{symbolCount, pairCount, pairsIn, tableIn}
-use Rattle.meaning.specs.Refusals.{Refusal, refusal, Row, first, tableRows}
-use Rattle.meaning.specs.Calls.{Answer, refused, gives, Yes, aye, degreeRows, part, subtermRows, nearerRows}
+use Rattle.meaning.specs.Refusals.{Refusal, refusal, Row, first, row13, tableRows}
+use Rattle.meaning.specs.Calls.{Answer, refused, gives, Yes, aye, symbolRows, degreeRows, part, subtermRows, nearerRows}
 use Rattle.meaning.specs.Demands.{Exactly}
 use Rattle.meaning.specs.Tables.{SymbolDegrees}
 use Rattle.meaning.specs.Parts.{subtermAt, NearerIs}
-use Rattle.meaning.proofs.First.{first-given, given-first}
+use Rattle.meaning.proofs.First.{first-given, given-first, append-none}
 use Rattle.demands.specs.Program.{Program}
 use Rattle.demands.specs.Demand1.{Refuses, Demand1}
 use Rattle.demands.specs.Demand2.{Demand2}
@@ -84,14 +84,14 @@ module _ (table : List ℕ) (f g : ℕ → ℕ → Answer ℕ) (sf : SymbolDegre
 
       go : Dec (a < symbolCount table) → Dec (b < symbolCount table) → Dec (a ≡ b)
           → ((k : ℕ) × (k < pairCount table) × (test k ≡ true)) ⊎ ((k : ℕ) → k < pairCount table → test k ≡ false) → f a b ≡ g a b
-      go (no m) y z o = let w : (symbolCount table ≤ a) ⊎ (symbolCount table ≤ b) = inl (omega arith) in sf .outside a b w ∙ inv (sg .outside a b w)
-      go (yes l) (no m) z o = let w : (symbolCount table ≤ a) ⊎ (symbolCount table ≤ b) = inr (omega arith) in sf .outside a b w ∙ inv (sg .outside a b w)
+      go (no m) y z o = let w : symbolCount table ≤ a = omega arith in sf .first-outside a b w ∙ inv (sg .first-outside a b w)
+      go (yes l) (no m) z o = let w : symbolCount table ≤ b = omega arith in sf .second-outside a b l w ∙ inv (sg .second-outside a b l w)
       go (yes l) (yes m) (yes e) o = subst (λ x. f a x ≡ g a x) e (sf .itself a l ∙ inv (sg .itself a l))
       go (yes l) (yes m) (no e) (inl r) = listed (r .0) (r .1) (getD (pairsIn table) (r .0) (pair 0 0 0)) refl (r .2)
       go (yes l) (yes m) (no e) (inr r) =
           let n : (k l h d : ℕ) → k < pairCount table → getD (pairsIn table) k (pair 0 0 0) ≡ pair l h d → isPair l h a b ≡ false
           = λ k l h d b′ e′. ap (λ x. ofPair x a b) (inv e′) ∙ r k b′ in
-          sf .others a b e n ∙ inv (sg .others a b e n)
+          sf .others a b l m e n ∙ inv (sg .others a b l m e n)
 
 -- ---- call by call
 
@@ -108,9 +108,12 @@ module _ (P Q : Program) (one : Demand1 P) (one′ : Demand1 Q) (two : Demand2 P
       x .1 ∙ ap gives (only-yes (x .0) (y .0)) ∙ inv (y .1))
 
   pub same-symbol-degree : (table : List ℕ) (a b : ℕ) → P .symbolDegree table a b ≡ Q .symbolDegree table a b
+  unfolding symbolRows
   same-symbol-degree table a b =
-      same-answer (tableRows table) _ _ (one .symbol-degree table a b) (one′ .symbol-degree table a b)
-      (λ q. same-degree table (P .symbolDegree table) (Q .symbolDegree table) (more .symbol-degrees table q) (more′ .symbol-degrees table q) a b)
+      same-answer (symbolRows table a b) _ _ (one .symbol-degree table a b) (one′ .symbol-degree table a b)
+      (λ q.
+      let s = append-none (tableRows table) (row13 (symbolCount table) a b ∷ []) q .0 in
+      same-degree table (P .symbolDegree table) (Q .symbolDegree table) (more .symbol-degrees table s) (more′ .symbol-degrees table s) a b)
 
   pub same-heading-degree : (table left right : List ℕ) → P .headingDegree table left right ≡ Q .headingDegree table left right
   same-heading-degree table left right =

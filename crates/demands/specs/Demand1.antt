@@ -9,7 +9,7 @@ use lib.ListN.{length}
 use Rattle.theory.specs.Pairs.{Pair}
 use Rattle.meaning.specs.File.{symbolCount, pairCount}
 use Rattle.meaning.specs.Refusals.{Row, Given, tableRows}
-use Rattle.meaning.specs.Calls.{refused, degreeRows, part, subtermRows, neither, nearerRows, lowestIn, highestIn, matchRows, writerRows, backRows}
+use Rattle.meaning.specs.Calls.{refused, symbolRows, degreeRows, part, subtermRows, neither, nearerRows, lowestIn, highestIn, matchRows, writerRows, backRows}
 use Rattle.meaning.specs.Demands.{Exactly, Order}
 use Rattle.meaning.specs.Matching.{Leaves, Lengths}
 use Rattle.demands.specs.Program.{Program}
@@ -21,7 +21,7 @@ Refuses rows = (n : ℕ) × (place : ℕ) × Given rows n place
 pub record Demand1 (P : Program) : Type 0 where
   -- refusals with a number and a place
   pub is-table : (table : List ℕ) → Exactly (tableRows table) (P .isTable table)
-  pub symbol-degree : (table : List ℕ) (a b : ℕ) → Exactly (tableRows table) (P .symbolDegree table a b)
+  pub symbol-degree : (table : List ℕ) (a b : ℕ) → Exactly (symbolRows table a b) (P .symbolDegree table a b)
   pub heading-degree : (table one two : List ℕ) → Exactly (degreeRows table one two) (P .headingDegree table one two)
   pub match : (table pattern heading : List ℕ) (cut : ℕ) (spans sets : List ℕ)
       → Exactly (matchRows table pattern heading cut spans sets) (P .match table pattern heading cut spans sets .answer)

@@ -10,7 +10,7 @@ use Rattle.theory.specs.Table.{Table}
 use Rattle.theory.specs.Pairs.{Pair}
 use Rattle.meaning.specs.File.{tableIn}
 use Rattle.meaning.specs.Refusals.{first, SoundFile}
-use Rattle.meaning.specs.Calls.{Answer, gives, degreeRows, aye, Degrees, degrees, Matched}
+use Rattle.meaning.specs.Calls.{Answer, refused, gives, degreeRows, aye, Degrees, degrees, Matched}
 use Rattle.meaning.specs.Demands.{WritesTerm, WritesPattern, Accepted}
 use Rattle.meaning.specs.Tables.{TableFile, TopNotListed, TopNotWritten, SymbolDegrees, ReadBack, RoundTrip}
 use Rattle.meaning.specs.Parts.{TermLists, Subterms, Nearest}
@@ -39,12 +39,26 @@ pub record MatchSays (T : Table) (cut : ℕ) (p : Pattern) (h : Term) (pattern :
   pub packed : (d : Degrees) → r .answer ≡ gives d → PackedInOrder p r
   pub no-overlap : NoOverlap p h r
 
+-- ---- 13 is for the degree of two symbol numbers: no other call gives it
+
+abbrev pub Never13 : {A : Type 0} → Answer A → Type 0
+Never13 answer = (place : ℕ) → answer ≡ refused 13 place → ⊥
+
+pub record NamedThereAlone (P : Program) : Type 0 where
+  pub is-table : (table : List ℕ) → Never13 (P .isTable table)
+  pub heading-degree : (table one two : List ℕ) → Never13 (P .headingDegree table one two)
+  pub match : (table pattern heading : List ℕ) (cut : ℕ) (spans sets : List ℕ) → Never13 (P .match table pattern heading cut spans sets .answer)
+  pub write-table : (arities : List ℕ) (pairs : List Pair) (output : List ℕ) → Never13 (P .writeTable arities pairs output .answer)
+  pub arity-of : (table : List ℕ) (symbol : ℕ) → Never13 (P .arityOf table symbol)
+  pub pair-of : (table : List ℕ) (index : ℕ) → Never13 (P .pairOf table index)
+
 pub record Further (P : Program) : Type 0 where
   -- tables
   pub recognised : (file : List ℕ) → P .isTable file ≡ gives aye ↔ TableFile file
   pub top-not-listed : (file : List ℕ) → TopNotListed file (P .isTable file)
   pub top-not-written : (arities : List ℕ) (pairs : List Pair) (output : List ℕ) → TopNotWritten pairs (P .writeTable arities pairs output .answer)
   pub symbol-degrees : (table : List ℕ) → SoundFile table → SymbolDegrees table (P .symbolDegree table)
+  pub named-there-alone : NamedThereAlone P
   pub reads-back : (table : List ℕ) → SoundFile table → ReadBack table (P .arityOf table) (P .pairOf table)
   pub round-trip : RoundTrip (P .writeTable)
   -- headings and their parts

@@ -15,10 +15,10 @@ use Rattle.theory.specs.Table.{Lawful}
 use Rattle.theory.specs.Pairs.{Pair, pair, isPair, listed, SoundPair}
 use Rattle.theory.proofs.Lemmas.{all-getD}
 use Rattle.meaning.specs.File.{symbolCount, pairCount, aritiesIn, pairsIn, tableIn}
-use Rattle.meaning.specs.Refusals.{first, tableRows, SoundFile}
-use Rattle.meaning.specs.Calls.{gives, symbolDegree}
+use Rattle.meaning.specs.Refusals.{row13, first, tableRows, SoundFile}
+use Rattle.meaning.specs.Calls.{refused, gives, symbolRows, symbolDegree}
 use Rattle.meaning.specs.Tables.{SymbolDegrees}
-use Rattle.meaning.proofs.First.{unless-gives}
+use Rattle.meaning.proofs.First.{first-append, unless-gives}
 use Rattle.meaning.proofs.Sound.{Passed, passed, length-pairsIn, length-aritiesIn, sound}
 use Rattle.meaning.proofs.Rising.{After, Sorted, sorted}
 
@@ -64,20 +64,37 @@ module _ (table : List ℕ) (e : SoundFile table) where
   L : Lawful (tableIn table)
   L = sound table e .lawful
 
-  -- the call answers with the table's degree
-  gives-degree : (a b d : ℕ) → tableIn table .deg a b ≡ d → symbolDegree table a b ≡ gives d
-  unfolding symbolDegree
-  gives-degree a b d k = rw e (ap gives k)
+  -- LAW: of two symbols the call answers with the table's degree
+  pub gives-degree : (a b d : ℕ) → a < symbolCount table → b < symbolCount table → tableIn table .deg a b ≡ d → symbolDegree table a b ≡ gives d
+  unfolding symbolDegree symbolRows row13
+  gives-degree a b d l m k =
+      rw (first-append (tableRows table) (row13 (symbolCount table) a b ∷ []) e, lt-ltb a (symbolCount table) l, lt-ltb b (symbolCount table) m) (ap gives k)
 
+  -- .. and a number that is no symbol is refused at its place
+  names-first : (a b : ℕ) → symbolCount table ≤ a → symbolDegree table a b ≡ refused 13 0
+  unfolding symbolDegree symbolRows row13
+  names-first a b l = rw (first-append (tableRows table) (row13 (symbolCount table) a b ∷ []) e, le-ltb a (symbolCount table) l)
+
+  names-second : (a b : ℕ) → a < symbolCount table → symbolCount table ≤ b → symbolDegree table a b ≡ refused 13 1
+  unfolding symbolDegree symbolRows row13
+  names-second a b l m =
+      rw (first-append (tableRows table) (row13 (symbolCount table) a b ∷ []) e, lt-ltb a (symbolCount table) l, le-ltb b (symbolCount table) m)
+
+  -- what the call gives is the table's degree
   given-degree : (a b d : ℕ) → symbolDegree table a b ≡ gives d → tableIn table .deg a b ≡ d
   unfolding symbolDegree
-  given-degree a b d k = unless-gives (first (tableRows table)) (tableIn table .deg a b) d k .1
+  given-degree a b d k = unless-gives (first (symbolRows table a b)) (tableIn table .deg a b) d k .1
+
+  listed-sound : (k l h d : ℕ) → k < pairCount table → getD (pairsIn table) k (pair 0 0 0) ≡ pair l h d → SoundPair (aritiesIn table) (pair l h d)
+  listed-sound k l h d m f =
+      let n : k < length (pairsIn table) = omega (arith, length-pairsIn table) in
+      subst (SoundPair (aritiesIn table)) f (all-getD (SoundPair (aritiesIn table)) (pairsIn table) k (pair 0 0 0) n (q .pairs))
 
   pub degree-listed : (k l h d : ℕ) → k < pairCount table → getD (pairsIn table) k (pair 0 0 0) ≡ pair l h d → tableIn table .deg l h ≡ d
   unfolding tableIn
   degree-listed k l h d m f =
       let n : k < length (pairsIn table) = omega (arith, length-pairsIn table) in
-      let s = subst (SoundPair (aritiesIn table)) f (all-getD (SoundPair (aritiesIn table)) (pairsIn table) k (pair 0 0 0) n (q .pairs)) in
+      let s = listed-sound k l h d m f in
       rw (lt-ltb l (length (aritiesIn table)) (omega (arith, s .0, s .1)), lt-ltb h (length (aritiesIn table)) (s .1), ne-eqb l h (λ z. omega (arith, s .0)))
       (listed-at (aritiesIn table) (pairsIn table) (q .pairs) (sorted (pairsIn table) (q .ordered)) k l h d n f)
 
@@ -104,9 +121,14 @@ module _ (table : List ℕ) (e : SoundFile table) where
   unfolding tableIn
   symbol-degrees =
       record {
-        itself = λ a l. gives-degree a a 1000 (L .itself a (omega (arith, length-aritiesIn table q)));
-        listed = λ k l h d m f. (gives-degree l h d (degree-listed k l h d m f), gives-degree h l d (L .either h l ∙ degree-listed k l h d m f));
+        itself = λ a l. gives-degree a a 1000 l l (L .itself a (omega (arith, length-aritiesIn table q)));
         whole = λ a b k. sound table e .only-itself a b (given-degree a b 1000 k);
-        others = λ a b n f. gives-degree a b 0 (degree-others a b n f);
-        outside = λ a b o. gives-degree a b 0 (degree-outside a b o);
+        listed = λ k l h d m f.
+            let s = listed-sound k l h d m f in
+            let n : h < symbolCount table = omega (arith, s .1, length-aritiesIn table q) in
+            let o : l < symbolCount table = omega (arith, s .0) in
+            (gives-degree l h d o n (degree-listed k l h d m f), gives-degree h l d n o (L .either h l ∙ degree-listed k l h d m f));
+        others = λ a b l m n f. gives-degree a b 0 l m (degree-others a b n f);
+        first-outside = names-first;
+        second-outside = names-second;
       }

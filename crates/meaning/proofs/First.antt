@@ -11,8 +11,8 @@ use native.Mathlib.Decide.{decLt}
 use mathlib.Core.Bool.{Bool, true, false}
 use Rattle.theory.specs.Least.{leastBelow, All}
 use lib.ListN.{length, getD}
-use Rattle.meaning.specs.Refusals.{Refusal, refusal, Row, row, rowPlace, first, Given, row1-short, row1-offsets, row2, row3, row4, row5, row6, row7, row8, row8-output, row9, row10, row14, tableRows}
-use Rattle.meaning.specs.Calls.{refused, gives, unless, degreeRows, subtermRows, inputRows, searchRows, matchRows, writerRows, backRows}
+use Rattle.meaning.specs.Refusals.{Refusal, refusal, Row, row, rowPlace, first, Given, row1-short, row1-offsets, row2, row3, row4, row5, row6, row7, row8, row8-output, row9, row10, row13, row14, tableRows}
+use Rattle.meaning.specs.Calls.{refused, gives, unless, symbolRows, degreeRows, subtermRows, inputRows, searchRows, matchRows, writerRows, backRows}
 use Rattle.meaning.specs.Demands.{Exactly, Order}
 
 -- a row more in front, which does not hold
@@ -73,10 +73,11 @@ module _ {A : Type 0} where
 
 -- THEOREM: the rows of each call stand in their order, whatever is lent
 pub order : Order
-unfolding degreeRows subtermRows matchRows inputRows searchRows writerRows backRows tableRows row1-short row1-offsets row2 row3 row4 row5 row6 row7 row8 row8-output row9 row10 row14
+unfolding symbolRows degreeRows subtermRows matchRows inputRows searchRows writerRows backRows tableRows row1-short row1-offsets row2 row3 row4 row5 row6 row7 row8 row8-output row9 row10 row13 row14
 order =
     record {
       is-table = λ table. refl;
+      symbol-degree = λ table a b. refl;
       heading-degree = λ table one two. refl;
       subterm = λ table term. refl;
       match = λ table pattern heading cut spans sets. refl;

@@ -158,6 +158,10 @@ misshapen input m n =
 unfoldable pub row12 : List ℕ → Row
 row12 input = row 12 (at0 (misshapen input (number input 2) (number input 4)))
 
+-- 13 of the degree of two symbol numbers, after 4: the table has no symbol a, and that is told at 0; or else it has no symbol b, told at 1.
+unfoldable pub row13 : ℕ → ℕ → ℕ → Row
+row13 s a b = row 13 (cond (not (ltb a s)) (just 0) (cond (not (ltb b s)) (just 1) none))
+
 -- 14 of reading back, at 0, after 4: there is no such symbol or pair.
 unfoldable pub row14 : ℕ → ℕ → Row
 row14 index count = row 14 (at0 (not (ltb index count)))

@@ -79,15 +79,16 @@ pub record SoundTable (table : List ℕ) : Type 0 where
   pub only-itself : OnlyItself (tableIn table)
   pub small : tableIn table .size ≤ 256
 
--- The degree that a call gives for two symbol numbers: 1000 of a symbol with itself and of no other two, a listed pair's in either order, 0 of every
--- other two, and 0 where one is no symbol, even of a number with itself.
+-- The answer for two symbol numbers: 1000 of a symbol with itself and of no other two, a listed pair's degree in either order, 0 of every other two
+-- symbols. A number that is no symbol is refused at its place, and the first is told where neither is one.
 pub record SymbolDegrees (table : List ℕ) (degreeOf : ℕ → ℕ → Answer ℕ) : Type 0 where
   pub itself : (a : ℕ) → a < symbolCount table → degreeOf a a ≡ gives 1000
   pub whole : (a b : ℕ) → degreeOf a b ≡ gives 1000 → a ≡ b
   pub listed : (k l h d : ℕ) → k < pairCount table → getD (pairsIn table) k (pair 0 0 0) ≡ pair l h d → (degreeOf l h ≡ gives d) × (degreeOf h l ≡ gives d)
-  pub others : (a b : ℕ) → (a ≡ b → ⊥) → ((k l h d : ℕ) → k < pairCount table → getD (pairsIn table) k (pair 0 0 0) ≡ pair l h d → isPair l h a b ≡ false)
+  pub others : (a b : ℕ) → a < symbolCount table → b < symbolCount table → (a ≡ b → ⊥) → ((k l h d : ℕ) → k < pairCount table → getD (pairsIn table) k (pair 0 0 0) ≡ pair l h d → isPair l h a b ≡ false)
       → degreeOf a b ≡ gives 0
-  pub outside : (a b : ℕ) → (symbolCount table ≤ a) ⊎ (symbolCount table ≤ b) → degreeOf a b ≡ gives 0
+  pub first-outside : (a b : ℕ) → symbolCount table ≤ a → degreeOf a b ≡ refused 13 0
+  pub second-outside : (a b : ℕ) → a < symbolCount table → symbolCount table ≤ b → degreeOf a b ≡ refused 13 1
 
 -- Reading back gives the bytes of the file at the symbol, at the pair; past the last one there is nothing to read.
 pub record ReadBack (table : List ℕ) (arityOf : ℕ → Answer ℕ) (pairOf : ℕ → Answer Pair) : Type 0 where

@@ -1,4 +1,4 @@
-// Why a call is refused: a case for each number of document 01's list, with the place where the number has one of its own.
+// Why a call is refused: a case for each number of the documents' list, with the place where the number has one of its own.
 ghost use mathlib.Core.Path.{_≡_};
 ghost use Rattle.meaning.specs.Refusals.{numberOf, placeOf};
 ghost use Rattle.refusal.specs.Told.{told};
@@ -24,12 +24,14 @@ pub enum Refusal {
     Clash(u16),
     // no term can stand for this variable
     NoForm(u16),
+    // of two numbers, the one at this place is no symbol
+    NoSymbol(u16),
     // no such symbol or pair
     Absent,
 }
 
 impl Refusal {
-    // The number on document 01's list.
+    // The number on that list.
     pub fn number(self) -> u16
         ensures { λ r. ⌜ r ≡ numberOf (told self) ⌝ }
     {
@@ -44,6 +46,7 @@ impl Refusal {
             Refusal::Room => 8,
             Refusal::Clash(_) => 9,
             Refusal::NoForm(_) => 10,
+            Refusal::NoSymbol(_) => 13,
             Refusal::Absent => 14,
         }
     }
@@ -59,6 +62,7 @@ impl Refusal {
             Refusal::Heading(node) => node,
             Refusal::Clash(node) => node,
             Refusal::NoForm(variable) => variable,
+            Refusal::NoSymbol(place) => place,
             Refusal::Layout => 0,
             Refusal::Counts => 0,
             Refusal::Cut => 0,

@@ -45,14 +45,23 @@ pub fn is_table(table: &[u8]) -> TableAnswer
     }
 }
 
-// How near two symbols are.
+// How near two symbols are; where a number is none, which of the two.
 pub fn symbol_degree(table: &[u8], a: u16, b: u16) -> DegreeAnswer
     ensures { λ r. ⌜ SymbolDegree (now (table .entry)) a b r ⌝ }
 {
     let checked = check(table);
     match checked {
         Checked::Refused(why) => DegreeAnswer::Refused(why),
-        Checked::Sound => DegreeAnswer::Degree(degree(table, a, b)),
+        Checked::Sound => {
+            let symbols = symbol_count(table);
+            if a >= symbols {
+                return DegreeAnswer::Refused(Refusal::NoSymbol(0));
+            }
+            if b >= symbols {
+                return DegreeAnswer::Refused(Refusal::NoSymbol(1));
+            }
+            DegreeAnswer::Degree(degree(table, a, b))
+        }
     }
 }
 

@@ -23,11 +23,13 @@ pub fn check_table(table: &[u8]) -> Answer<()> {
     Table::read(table).map(|_| ())
 }
 
-/// The degree of two symbol numbers; 0 if one is not in the table. Refusals 1 to 4.
+/// How near two symbols are. Refusals 1 to 4, and 13 at 0 or 1: the first of the two numbers that is no symbol of the table.
 pub fn symbol_degree(table: &[u8], a: u16, b: u16) -> Answer<u16> {
     let table = Table::read(table)?;
-    let known = table.arity(a).is_some() && table.arity(b).is_some();
-    Ok(if known { table.degree(a, b) } else { 0 })
+    match [a, b].iter().position(|&symbol| table.arity(symbol).is_none()) {
+        Some(place) => refuse(13, place),
+        None => Ok(table.degree(a, b)),
+    }
 }
 
 /// The arity of a symbol. Refusals 1 to 4 and 14.

@@ -36,7 +36,10 @@ fn of_symbols_and_headings() {
         assert_eq!(symbol_degree(&t, 6, 5), Ok(500));
         assert_eq!(symbol_degree(&t, 5, 5), Ok(1000));
         assert_eq!(symbol_degree(&t, 0, 1), Ok(0));
-        assert_eq!(symbol_degree(&t, 8, 8), Ok(0));
+        assert_eq!(symbol_degree(&t, 8, 8), Err(Refusal { number: 13, place: 0 }));
+        assert_eq!(symbol_degree(&t, 8, 7), Err(Refusal { number: 13, place: 0 }));
+        assert_eq!(symbol_degree(&t, 7, 8), Err(Refusal { number: 13, place: 1 }));
+        assert_eq!(symbol_degree(&t[..65], 8, 8), Err(Refusal { number: 1, place: 0 }));
         assert_eq!(symbol_degree(&[0; 9], 0, 0), Err(Refusal { number: 1, place: 0 }));
         assert_eq!(symbol_degree(&[0; 10], 0, 0), Err(Refusal { number: 2, place: 0 }));
     }
