@@ -20,7 +20,7 @@ abbrev pub listed : List Pair → ℕ → ℕ → ℕ
 listed [] a b = 0
 listed (pair l h d ∷ ps) a b = let r = listed ps a b in cond (isPair l h a b) d r
 
--- The degree of two symbol numbers: 0 if one is not in the table, 1000 of a symbol with itself, else as listed.
+-- The degree of two numbers: 1000 of a symbol with itself, else as listed; 0 where one is no symbol, so that only symbols are near to anything.
 abbrev pub degreeIn : ℕ → List Pair → ℕ → ℕ → ℕ
 degreeIn n ps a b = cond (ltb a n && ltb b n) (cond (eqb a b) 1000 (listed ps a b)) 0
 
