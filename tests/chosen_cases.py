@@ -252,6 +252,41 @@ def found(cases):
     cases.match(wide, [0, X], [1, 127], 600, 'match 655 900')
 
 
+def spread_table():
+    """A symbol of arity 8, 255 constants and as many pairs as there may be, spread over all that could be listed. A constant is the lower
+    of some of its pairs and the higher of the others."""
+    pairs = [(a, b) for a in range(1, 256) for b in range(a + 1, 256)]
+    return [8] + [0] * 255, [(*pairs[len(pairs) * k // 8192], 1 + 35 * k % 999) for k in range(8192)]
+
+
+def walked(symbols, pairs, cut):
+    """Each symbol's near forms, by one walk over the pairs; the reference asks for one degree after the other."""
+    near = [{symbol} for symbol in range(symbols)]
+    for lower, higher, degree in pairs:
+        if degree >= cut:
+            near[lower].add(higher)
+            near[higher].add(lower)
+    return near
+
+
+def gathered(cases):
+    """Near forms, from both ends of each pair: of symbols that are the lower of their pairs, the higher, now one and now the other."""
+    for symbol, cut, lowest in ((5, 1, 500), (5, 500, 500), (5, 501, 700), (5, 700, 700), (5, 701, 1000), (6, 500, 500), (6, 501, 800),
+                                (6, 800, 800), (6, 801, 1000), (7, 700, 700), (7, 701, 800), (7, 800, 800), (7, 801, 1000)):
+        cases.match(T, [X], [symbol], cut, 'match %d 1000' % lowest)
+    for cut in 500, 501, 600, 601, 700, 701, 800, 801:
+        for symbol in 1, 2, 3, 4:
+            cases.match(T, [X], [symbol, 5], cut)
+    arities, pairs = spread_table()
+    leaves = [1 + i % 255 for i in range(260)]                        # every constant stands in the heading
+    heading = [node for i in range(0, 259, 7) for node in [0] + leaves[i:i + 7]] + leaves[259:]
+    table = table_bytes(arities, pairs)
+    for cut in 1, 500:
+        near = walked(256, pairs, cut)
+        assert reference.match(table, [X], heading, cut).sets[0] == [sorted(near[node]) for node in heading]
+        cases.match(table, [X], heading, cut, 'match %d 1000' % cut)
+
+
 def same(cases):
     """The highest degree that may be listed, and cut 1000, at which only the same will do."""
     cousins = table_bytes([2, 0, 0, 0], [(1, 2, 999), (2, 3, 999)])
@@ -311,4 +346,4 @@ def many(cases):
     cases.match(T, [1, 0, X, X], [1, 0] + half + [0] + half[2:] + [5], 500)
 
 
-GROUPS = [document, tables, terms, subterms, nearest, rooms, order, clashes, formless, found, same, many]
+GROUPS = [document, tables, terms, subterms, nearest, rooms, order, clashes, formless, found, gathered, same, many]

@@ -22,7 +22,7 @@ from replay import framed, replies
 SEED, SOUND, DAMAGED, ANY = 5, 2200, 700, 100
 
 # how often each answer is given; main stops if it is otherwise
-GIVEN = {'match': 2115, 'refused 1': 288, 'refused 2': 124, 'refused 3': 190, 'refused 4': 391, 'refused 5': 62, 'refused 6': 412,
+GIVEN = {'match': 2159, 'refused 1': 288, 'refused 2': 124, 'refused 3': 190, 'refused 4': 391, 'refused 5': 62, 'refused 6': 412,
          'refused 7': 393, 'refused 9': 756, 'refused 10': 488, 'refused 12': 542, 'cut off': 1}
 
 

@@ -1,3 +1,4 @@
 -- Laws that the proofs of functions cite.
 mod Joining
 mod Nearness
+mod OnePass

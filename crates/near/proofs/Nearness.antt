@@ -1,38 +1,34 @@
--- Near sets, gathered pair by pair: a symbol is in another's set exactly if a listed pair of both reaches the cut, and the lowest degree in a
--- set is the lowest of such pairs', for two symbols have no degree but the one that is listed for them.
-use mathlib.Core.Path.{_≡_, refl, sym as inv, ap, ap₂, _∙_, subst}
+-- Near sets, gathered pair by pair: after all pairs they hold the symbols that are near, as OnePass has it, and the lowest degree in a set is
+-- the lowest of its pairs', for two symbols have no degree but the one that is listed for them.
+use mathlib.Core.Path.{_≡_, refl, sym as inv, ap, _∙_, subst}
 use mathlib.Core.Logic.{inl, inr}
 use mathlib.Core.List.{List}
-use mathlib.Core.Bool.{Bool, true, false, _&&_, _||_, cond, and-false, or-false, false≢true}
+use mathlib.Core.Bool.{Bool, true, false, _&&_, _||_, cond, or-false, false≢true}
 use Prim.Native.Nat.{ℕ, _+_, _-_, _≤_, _<_, min, max}
-use native.Mathlib.Decide.{decLt, ℕ-discrete}
+use native.Mathlib.Decide.{ℕ-discrete}
 use native.Mathlib.Numerals.{add-one}
 use native.Mathlib.Omega.{arith}
-use borrow.Author.Tests.{lt-ltb, le-ltb, le-leb, ltb-true, leb-true, eq-eqb, ne-eqb, eqb-true}
+use borrow.Author.Tests.{lt-ltb, ltb-true, eq-eqb}
 use lib.Dec.{ltb, leb, eqb}
-use lib.ListN.{getD}
 use Rattle.theory.specs.Least.{some, lowest}
 use Rattle.theory.specs.Table.{Table}
 use Rattle.theory.specs.Pairs.{Pair, pair, isPair, SoundPair}
-use Rattle.theory.proofs.Lemmas.{some-of, the-most, and-true, and-left, and-right, or-right, lowest-le, le-lowest}
+use Rattle.theory.proofs.Lemmas.{the-most, and-true, and-left, and-right, or-right, lowest-le, le-lowest}
 use Rattle.meaning.specs.Limits.{setRoom}
-use Rattle.meaning.specs.File.{pairCount, pairAt, aritiesIn, pairsIn, tableIn}
+use Rattle.meaning.specs.File.{pairCount, pairAt, aritiesIn, tableIn}
 use Rattle.meaning.specs.Refusals.{SoundFile}
 use Rattle.meaning.specs.Tables.{pairStart, lowerAt, higherAt, degreeAt}
 use Rattle.meaning.proofs.Bytes.{pair-in}
 use Rattle.meaning.proofs.Sound.{sound}
-use Rattle.meaning.proofs.Degrees.{degree-listed, degree-others}
 use Rattle.meaning.proofs.Rated.{lowest-top}
 use Rattle.table.proofs.Reading.{sound-at}
 use Rattle.near.specs.Near.{inNear, farthest, isNear, NearSets, OwnSets, PairJoined}
+use Rattle.near.specs.OnePass.{brings, walked}
+use Rattle.near.proofs.OnePass.{pair-degree, apart, one-pass}
 
 -- ---- pair by pair
 
 module _ (file : List ℕ) (cut : ℕ) where
-  -- pair i is of h and k, and reaches the cut
-  abbrev brings : ℕ → ℕ → ℕ → Bool
-  brings h k i = leb cut (degreeAt file i) && isPair (lowerAt file i) (higherAt file i) h k
-
   -- pair i is of h, and reaches the cut
   abbrev touches : ℕ → ℕ → Bool
   touches h i = leb cut (degreeAt file i) && (eqb h (lowerAt file i) || eqb h (higherAt file i))
@@ -43,14 +39,15 @@ module _ (file : List ℕ) (cut : ℕ) where
 
   -- the sets as the first n pairs make them
   pub record NearTo (n : ℕ) (near : List ℕ) : Type 0 where
-    pub has : (h k : ℕ) → k < setRoom → inNear near h k ≡ ((ltb h (tableIn file .size) && eqb k h) || some n (brings h k))
+    pub has : (h k : ℕ) → k < setRoom → inNear near h k ≡ walked file cut n h k
     pub within : (h : ℕ) → farthest near h ≤ 1000
     pub low : (h : ℕ) → 1000 - farthest near h ≡ lowest n (brought h)
 
-  pub near-none : (near : List ℕ) → OwnSets (tableIn file .size) near → NearTo 0 near
-  near-none near own =
+  -- LAW: no pair yet
+  pub near-none : (symbols : ℕ) (near : List ℕ) → symbols ≡ tableIn file .size → OwnSets symbols near → NearTo 0 near
+  near-none symbols near all own =
       record {
-        has = λ h k l. own .has h k l ∙ inv (or-false _);
+        has = λ h k l. own .has h k l ∙ ap (λ (n : ℕ). ltb h n && eqb k h) all ∙ inv (or-false _);
         within = λ h. omega (arith, own .far h);
         low = λ h. omega (arith, own .far h);
       }
@@ -63,7 +60,7 @@ module _ (file : List ℕ) (cut : ℕ) where
       record {
         has = λ h k l.
             more .has h k l
-            ∙ rw (so-far .has h k l, add-one n) (moved (ltb h (tableIn file .size) && eqb k h) (some n (brings h k)) (brings h k n));
+            ∙ rw (so-far .has h k l, add-one n) (moved (ltb h (tableIn file .size) && eqb k h) (some n (brings file cut h k)) (brings file cut h k n));
         within = λ h. grown h (touches h n) (more .far h) .0;
         low = λ h. rw (add-one n) (grown h (touches h n) (more .far h) .1);
       }
@@ -95,77 +92,6 @@ module _ (file : List ℕ) (cut : ℕ) where
     abbrev T : Table
     T = tableIn file
 
-    -- the symbols of a pair have its degree, and either order serves
-    pair-degree : (i h k : ℕ) → i < pairCount file → isPair (lowerAt file i) (higherAt file i) h k ≡ true → T .deg k h ≡ degreeAt file i
-    pair-degree i h k l e = go (eqb h (lowerAt file i)) refl (eqb k (higherAt file i)) refl (eqb h (higherAt file i)) refl (eqb k (lowerAt file i)) refl e
-      where
-        is : T .deg (lowerAt file i) (higherAt file i) ≡ degreeAt file i
-        is = degree-listed file ok i (lowerAt file i) (higherAt file i) (degreeAt file i) l (pair-in file i l)
-
-        straight : eqb h (lowerAt file i) ≡ true → eqb k (higherAt file i) ≡ true → T .deg k h ≡ degreeAt file i
-        straight a b = sound file ok .lawful .either k h ∙ ap₂ (T .deg) (eqb-true _ _ a) (eqb-true _ _ b) ∙ is
-
-        across : eqb h (higherAt file i) ≡ true → eqb k (lowerAt file i) ≡ true → T .deg k h ≡ degreeAt file i
-        across a b = ap₂ (T .deg) (eqb-true _ _ b) (eqb-true _ _ a) ∙ is
-
-        go : (a : Bool) → eqb h (lowerAt file i) ≡ a → (b : Bool) → eqb k (higherAt file i) ≡ b → (c : Bool) → eqb h (higherAt file i) ≡ c
-            → (d : Bool) → eqb k (lowerAt file i) ≡ d → ((a && b) || (c && d)) ≡ true → T .deg k h ≡ degreeAt file i
-        go true p true q c r d s t = straight p q
-        go true p false q true r true s t = across r s
-        go true p false q true r false s t = absurd (false≢true t)
-        go true p false q false r d s t = absurd (false≢true t)
-        go false p b q true r true s t = across r s
-        go false p b q true r false s t = absurd (false≢true t)
-        go false p b q false r d s t = absurd (false≢true t)
-
-    -- where no pair brings two different symbols together, their degree does not reach the cut
-    apart : (h k : ℕ) → (h ≡ k → ⊥) → some (pairCount file) (brings h k) ≡ false → leb cut (T .deg k h) ≡ true → ⊥
-    apart h k n none reached =
-        let zero-degree = sound file ok .lawful .either k h ∙ degree-others file ok h k n other in
-        omega (arith, leb-true cut (T .deg k h) reached)
-      where
-        of-pair : Pair → Bool
-        of-pair (pair l u d) = isPair l u h k
-
-        no-pair : (i : ℕ) → i < pairCount file → (b : Bool) → isPair (lowerAt file i) (higherAt file i) h k ≡ b → isPair (lowerAt file i) (higherAt file i) h k ≡ false
-        no-pair i l false e = e
-        no-pair i l true e =
-            let brought : brings h k i ≡ true = and-true _ _ (rw (pair-degree i h k l e) at reached) e in
-            absurd (false≢true (inv none ∙ some-of (pairCount file) (brings h k) i l brought))
-
-        other : (i l u d : ℕ) → i < pairCount file → getD (pairsIn file) i (pair 0 0 0) ≡ pair l u d → isPair l u h k ≡ false
-        other i l u d m e = ap of-pair (inv e ∙ pair-in file i m) ∙ no-pair i m _ refl
-
-    -- all pairs bring the symbols that are near
-    all-near : cut ≤ 1000 → (h k : ℕ) → ((ltb h (T .size) && eqb k h) || some (pairCount file) (brings h k)) ≡ isNear T cut h k
-    all-near top h k = go (some (pairCount file) (brings h k)) refl (ℕ-discrete h k) (decLt k (T .size))
-      where
-        Told : Bool → Type 0
-        Told brought = ((ltb h (T .size) && eqb k h) || brought) ≡ (ltb k (T .size) && leb cut (T .deg k h))
-
-        by-pair : (i : ℕ) → i < pairCount file → brings h k i ≡ true → Told true
-        by-pair i m e =
-            let reaches = leb-true cut (degreeAt file i) (and-left (leb cut (degreeAt file i)) (isPair (lowerAt file i) (higherAt file i) h k) e) in
-            let is = pair-degree i h k m (and-right (leb cut (degreeAt file i)) (isPair (lowerAt file i) (higherAt file i) h k) e) in
-            let inside = sound file ok .lawful .inside k h (omega arith) .0 in
-            rw (lt-ltb k (T .size) inside, le-leb cut (T .deg k h) (omega arith)) (or-right (ltb h (T .size) && eqb k h) true refl)
-
-        by-none : some (pairCount file) (brings h k) ≡ false → (h ≡ k → ⊥) → (b : Bool) → leb cut (T .deg k h) ≡ b → (ltb k (T .size) && leb cut (T .deg k h)) ≡ false
-        by-none e n true r = absurd (apart h k n e r)
-        by-none e n false r = rw r (and-false (ltb k (T .size)))
-
-        go : (b : Bool) → some (pairCount file) (brings h k) ≡ b → Dec (h ≡ k) → Dec (k < T .size) → Told b
-        go true e d u =
-            elim (the-most (brings h k) (λ i. 0) (pairCount file)) [
-              | inl none ↦ absurd (false≢true (inv (none .0) ∙ e))
-              | inr one ↦ by-pair (one .pick) (one .below) (one .passes)
-            ]
-        go false e (yes d) (yes u) =
-            let degree = ap (T .deg k) d ∙ sound file ok .lawful .itself k u in
-            rw (lt-ltb h (T .size) (omega arith), eq-eqb k h (inv d), lt-ltb k (T .size) u, le-leb cut (T .deg k h) (omega arith))
-        go false e (yes d) (no u) = rw (le-ltb h (T .size) (omega arith), le-ltb k (T .size) (omega arith))
-        go false e (no d) u = rw (ne-eqb k h (λ q. d (inv q)), and-false (ltb h (T .size))) (inv (by-none e d _ refl))
-
     -- a pair of h brings the degree of a symbol near to h
     low-pair : (h i : ℕ) → i < pairCount file → lowest (T .size) (λ k. cond (isNear T cut h k) (T .deg k h) 1000) ≤ brought h i
     low-pair h i l = go (touches h i) refl (eqb h (lowerAt file i)) refl
@@ -175,7 +101,7 @@ module _ (file : List ℕ) (cut : ℕ) where
 
         with-other : (k : ℕ) → k < T .size → isPair (lowerAt file i) (higherAt file i) h k ≡ true → leb cut (degreeAt file i) ≡ true → lowest (T .size) g ≤ degreeAt file i
         with-other k m e r =
-            let is = pair-degree i h k l e in
+            let is = pair-degree file ok i h k l e in
             let near : isNear T cut h k ≡ true = and-true (ltb k (T .size)) (leb cut (T .deg k h)) (lt-ltb k (T .size) m) (ap (leb cut) is ∙ r) in
             let here : g k ≡ degreeAt file i = rw near is in
             omega (arith, lowest-le (T .size) g k m)
@@ -198,10 +124,10 @@ module _ (file : List ℕ) (cut : ℕ) where
     low-symbol : (h k : ℕ) → lowest (pairCount file) (brought h) ≤ cond (isNear T cut h k) (T .deg k h) 1000
     low-symbol h k = go (isNear T cut h k) refl (ℕ-discrete h k)
       where
-        by-pair : (i : ℕ) → i < pairCount file → brings h k i ≡ true → lowest (pairCount file) (brought h) ≤ T .deg k h
+        by-pair : (i : ℕ) → i < pairCount file → brings file cut h k i ≡ true → lowest (pairCount file) (brought h) ≤ T .deg k h
         by-pair i m e =
             let of-both = and-right (leb cut (degreeAt file i)) (isPair (lowerAt file i) (higherAt file i) h k) e in
-            let is = pair-degree i h k m of-both in
+            let is = pair-degree file ok i h k m of-both in
             let reaches = and-left (leb cut (degreeAt file i)) (isPair (lowerAt file i) (higherAt file i) h k) e in
             let touched : touches h i ≡ true = and-true (leb cut (degreeAt file i)) (eqb h (lowerAt file i) || eqb h (higherAt file i)) reaches (one-of (eqb h (lowerAt file i)) (eqb k (higherAt file i)) (eqb h (higherAt file i)) (eqb k (lowerAt file i)) of-both) in
             let here : brought h i ≡ degreeAt file i = rw touched in
@@ -212,10 +138,10 @@ module _ (file : List ℕ) (cut : ℕ) where
             one-of false b true d e = refl
             one-of false b false d e = e
 
-        different : (h ≡ k → ⊥) → leb cut (T .deg k h) ≡ true → (b : Bool) → some (pairCount file) (brings h k) ≡ b → lowest (pairCount file) (brought h) ≤ T .deg k h
-        different n r false e = absurd (apart h k n e r)
+        different : (h ≡ k → ⊥) → leb cut (T .deg k h) ≡ true → (b : Bool) → some (pairCount file) (brings file cut h k) ≡ b → lowest (pairCount file) (brought h) ≤ T .deg k h
+        different n r false e = absurd (apart file ok cut positive h k n e r)
         different n r true e =
-            elim (the-most (brings h k) (λ i. 0) (pairCount file)) [
+            elim (the-most (brings file cut h k) (λ i. 0) (pairCount file)) [
               | inl none ↦ absurd (false≢true (inv (none .0) ∙ e))
               | inr one ↦ by-pair (one .pick) (one .below) (one .passes)
             ]
@@ -231,7 +157,7 @@ module _ (file : List ℕ) (cut : ℕ) where
     pub near-all : cut ≤ 1000 → (near : List ℕ) → NearTo (pairCount file) near → NearSets T cut near
     near-all top near all =
         record {
-          has = λ h k l. all .has h k l ∙ all-near top h k;
+          has = λ h k l. all .has h k l ∙ one-pass file ok cut positive top .as-asked h k;
           within = all .within;
           low = λ h.
               let g : ℕ → ℕ = λ k. cond (isNear T cut h k) (T .deg k h) 1000 in

@@ -60,8 +60,7 @@ loop-holds c =
     let start = c .before .before .before .before .before .before .before .before in
     let file = now (start .args .file) in
     let size : c .before .before .before .before .before .symbol-count .result ≡ tableIn file .size = c .before .before .before .before .before .symbol-count .ensures .0 in
-    let own = c .before .before .before .own-sets .ensures in
-    (omega arith, omega (arith, size-is file (start .pre .0 .0)), refl, near-none file (start .args .cut) _ (rw size at own))
+    (omega arith, omega (arith, size-is file (start .pre .0 .0)), refl, near-none file (start .args .cut) _ _ size (c .before .before .before .own-sets .ensures))
 
 pair-from-requires : tie.Need-pair-from-requires Inv-loop μ-loop
 pair-from-requires c κs = omega (arith, c .before .before .loop .inv .1, inside (c .before))
