@@ -33,9 +33,9 @@ static int refused(uint32_t answer)
 /* A line for each position of a variable, with the symbols that may stand there. */
 static void print_variable(int v, const uint16_t *spans, const uint64_t *sets)
 {
-    int first = spans[2 * v];
-    int count = spans[2 * v + 1];
-    printf("x%d %d\n", v, count);
+    int first = spans[4 * v];
+    int count = spans[4 * v + 1];
+    printf("x%d %d %d %d\n", v, count, spans[4 * v + 2], spans[4 * v + 3]);
     for (int p = first; p < first + count; p++) {
         const char *between = "";
         for (int k = 0; k < SYMBOLS; k++) {
@@ -72,7 +72,7 @@ int main(void)
 
     printf("match %u %u\n", lowest, highest);
     for (int v = 0; v < 32; v++)
-        if (spans[2 * v + 1] > 0)
+        if (spans[4 * v + 1] > 0)
             print_variable(v, spans, sets);
     return 0;
 }

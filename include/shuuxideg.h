@@ -69,7 +69,7 @@
 #define SHX_VARIABLE(v) ((uint16_t)(32768u + (v)))
 
 /* how many numbers spans has, and how many words of sets a node of the heading takes */
-#define SHX_SPANS 64
+#define SHX_SPANS 128
 #define SHX_SET_WORDS 4
 
 /* whether symbol k is in the set at position p */
@@ -122,8 +122,9 @@ uint8_t shx_nearer(
  * none.
  *
  * Accepted: *lowest and *highest are the lowest and the highest degree that is reached, and
- *   spans   (at least SHX_SPANS numbers) tells, for variable v, its first position spans[2 * v] and how many positions it has, spans[2 * v + 1]:
- *           one for each node of the terms that may stand for it, in preorder. A variable with 0 positions is not in the pattern.
+ *   spans   (at least SHX_SPANS numbers) tells, for variable v, its first position spans[4 * v] and how many positions it has, spans[4 * v + 1]:
+ *           one for each node of the terms that may stand for it, in preorder. A variable with 0 positions is not in the pattern. spans[4 * v + 2]
+ *           and spans[4 * v + 3] are its own lowest and highest degree: so near to all that it faces is the worst term for it, and so near the best.
  *   sets    (at least SHX_SET_WORDS words for each node of the heading) has at position p the symbols that may stand there, symbol k as bit k % 64
  *           of word 4 * p + k / 64: SHX_HAS(sets, p, k).
  *   Choosing one symbol from each set of each variable gives all the ways, and each choice is one. Behind what is used both buffers are 0.

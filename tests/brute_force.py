@@ -60,12 +60,13 @@ def read_answer(text):
     assert text.endswith('\n')
     first, *lines = text[:-1].split('\n')
     kind, *numbers = first.split(' ')
-    sets = {}
+    sets, own = {}, {}
     for line in lines:
         if line.startswith('x'):
-            v, count = line[1:].split(' ')
+            v, count, *degrees = line[1:].split(' ')
             assert not sets or int(v) > max(sets)
             sets[int(v)] = positions = []
+            own[int(v)] = tuple(map(int, degrees))
             assert int(count) > 0
             left = int(count)
         else:
@@ -75,7 +76,7 @@ def read_answer(text):
             left -= 1
         assert line == ' '.join(line.split())
     assert not sets or left == 0
-    return kind, tuple(map(int, numbers)), sets
+    return kind, tuple(map(int, numbers)), sets, own
 
 
 def at_path(term, path):
@@ -156,7 +157,7 @@ def check(table, cut, pattern, heading):
         return []
     by_definition = list(matchers(table, cut, pattern, heading, terms))
     data = ref.table_bytes(table.arities, table.pairs)
-    kind, numbers, sets = read_answer(ref.ask(ref.question(cut, written(pattern), nodes, data)))
+    kind, numbers, sets, own = read_answer(ref.ask(ref.question(cut, written(pattern), nodes, data)))
     if kind == 'refused':
         assert not by_definition, (table.arities, table.pairs, cut, pattern, heading)
         assert numbers == refusal(table, cut, pattern, heading, terms), (table.arities, table.pairs, cut, pattern, heading)
@@ -165,6 +166,10 @@ def check(table, cut, pattern, heading):
     degrees = [degree for _, degree in by_definition]
     assert numbers == (min(degrees), max(degrees)) and list(sets) == names
     matching = [given for given, _ in by_definition]
+    for v in names:                               # its own degrees: what is given to it, with all that faces it
+        faced = [h for p, h in facing(pattern, heading) if p == (ref.VARIABLE, v)]
+        degrees = [min(ref.degree(table, given[v], h) for h in faced) for given in matching]
+        assert own[v] == (min(degrees), max(degrees)), (table.arities, table.pairs, cut, pattern, heading)
     for chosen in itertools.product(terms, repeat=len(names)):
         given = dict(zip(names, chosen))
         assert drawn(sets, given) == (given in matching)

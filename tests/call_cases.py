@@ -10,7 +10,7 @@ import reference
 from reference import Refused, two_bytes
 
 # as in the program: what fills a match's buffers before the call, their lengths, the length of a write's output, and room for bytes and a list
-GUARD, SPANS, SETS, OUTPUT, BYTES, LONGEST = 9999, 72, 4112, 72, 65544, 24579
+GUARD, SPANS, SETS, OUTPUT, BYTES, LONGEST = 9999, 136, 4112, 72, 65544, 24579
 
 SYMBOL_DEGREE, DEGREE, SUBTERM, NEARER, MATCH, IS_TABLE, ARITY, PAIR, WRITE = range(1, 10)
 
@@ -137,7 +137,7 @@ class Cases:
         nodes = ([], first, second)[reference.nearer(table, heading, first, second)]
         self.add(NEARER, table, [heading, first, second], [], part_text('nearer', nodes), told)
 
-    def match(self, table, pattern, heading, cut, told=None, spans=64, sets=None):
+    def match(self, table, pattern, heading, cut, told=None, spans=128, sets=None):
         if sets is None:
             sets = 4 * min(len(heading), 1024)
         assert spans < SPANS and sets < SETS

@@ -170,11 +170,11 @@ def nearest(cases):
 
 def rooms(cases):
     """Buffers that are too short, just long enough and longer; after every kind of answer."""
-    for spans, sets, told in ((63, 20, 'refused 8 0'), (64, 19, 'refused 8 0'), (64, 20, 'match 600 700'), (65, 20, 'match 600 700'),
-                              (64, 21, 'match 600 700'), (71, 4111, 'match 600 700'), (0, 20, 'refused 8 0'), (64, 0, 'refused 8 0'),
-                              (0, 0, 'refused 8 0'), (71, 19, 'refused 8 0'), (63, 4111, 'refused 8 0')):
+    for spans, sets, told in ((127, 20, 'refused 8 0'), (128, 19, 'refused 8 0'), (128, 20, 'match 600 700'), (129, 20, 'match 600 700'),
+                              (128, 21, 'match 600 700'), (135, 4111, 'match 600 700'), (0, 20, 'refused 8 0'), (128, 0, 'refused 8 0'),
+                              (0, 0, 'refused 8 0'), (135, 19, 'refused 8 0'), (127, 4111, 'refused 8 0'), (64, 20, 'refused 8 0')):
         cases.match(T, PATTERN, HEADING, 600, told, spans, sets)
-    for spans, sets in (64, 20), (71, 4111), (0, 0):
+    for spans, sets in (128, 20), (135, 4111), (0, 0):
         enough = sets >= 20
         cases.match(T[:65], PATTERN, HEADING, 600, 'refused 1 0', spans, sets)
         cases.match(T, PATTERN, HEADING, 0, 'refused 5 0', spans, sets)
@@ -250,6 +250,28 @@ def found(cases):
         for symbol in 2, 64, 128, 255:
             cases.match(wide, [X], [symbol], cut)
     cases.match(wide, [0, X], [1, 127], 600, 'match 655 900')
+
+
+def own_degrees(cases):
+    """Each variable's own degrees, told by hand: with what faces it, whatever faces the pattern's symbols and the other variables."""
+    for cut, pattern, heading, told, own in (
+            (500, [1, X], [2, 6], 'match 500 500', {0: (500, 1000)}),              # 1 faces 2 with 500; x0 is strong
+            (600, PATTERN, HEADING, 'match 600 700', {0: (600, 700)}),
+            (601, PATTERN, HEADING, 'match 700 700', {0: (700, 700)}),
+            (600, [0, 1, X, X + 1], [0, 3, 6, 5], 'match 600 600', {0: (800, 1000), 1: (700, 1000)}),
+            (600, [0, 1, X + 1, X], [0, 3, 6, 5], 'match 600 600', {0: (700, 1000), 1: (800, 1000)}),
+            (600, [0, X, X + 1], [0, 5, 1, 6], 'match 600 1000', {0: (700, 1000), 1: (600, 1000)}),
+            (601, [0, X, X + 1], [0, 5, 1, 6], 'match 700 1000', {0: (700, 1000), 1: (700, 1000)}),
+            (701, [0, X, X + 1], [0, 5, 1, 6], 'match 800 1000', {0: (1000, 1000), 1: (800, 1000)}),
+            (500, [0, X, 0, X, X + 31], [0, 5, 0, 6, 7], 'match 500 700', {0: (500, 700), 31: (700, 1000)}),
+            (501, [0, X, 0, X, X + 31], [0, 5, 0, 6, 7], 'match 700 700', {0: (700, 700), 31: (700, 1000)}),
+            (500, [0, X + 2, 0, X + 1, X + 2], [0, 5, 0, 7, 5], 'match 500 1000', {2: (500, 1000), 1: (700, 1000)}),
+            (500, [0, X, 0, X, X], [0, 1, 6, 0, 2, 6, 4, 7], 'match 500 700', {0: (500, 700)}),
+            (600, [0, X, 0, X, X], [0, 1, 6, 0, 2, 6, 4, 7], 'match 700 700', {0: (700, 700)})):
+        assert reference.match(T, pattern, heading, cut).own == own, (cut, pattern, heading)
+        cases.match(T, pattern, heading, cut, told)
+    cases.match(T, [0, X + 1, 0, X, X], [0, 5, 0, 5, 6], 701, 'refused 10 0')      # x1 was packed before, with its degrees
+    cases.match(T, [5], [7], 700, 'match 700 700')
 
 
 def spread_table():
@@ -334,7 +356,7 @@ def many(cases):
                     [5 + i % 32 % 3 if node == 5 else node for i, node in enumerate(shape)], 800, 'match 800 1000')
     long = sized_term(1024)
     cases.match(T, [X], long, 500)
-    cases.match(T, [X], long, 1000, spans=71, sets=4111)
+    cases.match(T, [X], long, 1000, spans=135, sets=4111)
     cases.match(T, long, long, 1000, 'match 1000 1000')
     cases.match(T, long[:-1] + [X + 5], long, 700, 'match 700 1000')
     cases.match(T, long[:-1] + [6], long, 501, 'refused 9 1023')
@@ -346,4 +368,4 @@ def many(cases):
     cases.match(T, [1, 0, X, X], [1, 0] + half + [0] + half[2:] + [5], 500)
 
 
-GROUPS = [document, tables, terms, subterms, nearest, rooms, order, clashes, formless, found, gathered, same, many]
+GROUPS = [document, tables, terms, subterms, nearest, rooms, order, clashes, formless, found, own_degrees, gathered, same, many]

@@ -11,19 +11,21 @@ import stored
 from call_cases import GUARD, SETS, SPANS, Cases, part_text, runs
 from chosen_cases import GROUPS
 from drawing import Draw, damaged, damaged_table, draw_match, draw_table, stray
-from reference import table_bytes
+from reference import match, table_bytes
 from table_cases import by_hand
 
 
 # ---- what is printed
 
-def published_match(vector):
+def published_match(table, vector):
+    """What is published, with each variable's own degrees as the reference has them, since they are not."""
     answer = vector['answer']
     if 'refused' in answer:
         return 'refused %d %d' % tuple(answer['refused'])
-    spans, sets = [0] * 64 + [GUARD] * (SPANS - 64), []
+    own = match(table, vector['pattern'], vector['heading'], vector['cut']).own
+    spans, sets = [0] * 128 + [GUARD] * (SPANS - 128), []
     for v in answer['order']:
-        spans[2 * v:2 * v + 2] = answer['spans'][str(v)]
+        spans[4 * v:4 * v + 4] = answer['spans'][str(v)] + list(own[v])
         for symbols in answer['sets'][str(v)]:
             sets += [sum(1 << s - at for s in symbols if at <= s < at + 64) for at in range(0, 256, 64)]
     lent = 4 * len(vector['heading'])
@@ -43,7 +45,7 @@ def published(cases):
         elif kind == 'nearer':
             cases.nearer(table, vector['heading'], *vector['candidates'], part_text('nearer', vector['candidates'][vector['nearer']]))
         elif kind == 'match':
-            cases.match(table, vector['pattern'], vector['heading'], vector['cut'], published_match(vector))
+            cases.match(table, vector['pattern'], vector['heading'], vector['cut'], published_match(table, vector))
 
 
 # ---- drawn at random
@@ -73,7 +75,7 @@ def drawn(cases, seed):
     else:
         cut = draw.one([1, 1, 1, 2, 250, 400, 500, 600, 700, 1000])
         sets = 4 * len(heading) + draw.one([-1] + 20 * [0] + [1, 5, 100])
-        cases.match(data, pattern, heading, cut, spans=64 + draw.one([0, 0, 1, 7]), sets=max(sets, 0))
+        cases.match(data, pattern, heading, cut, spans=128 + draw.one([0, 0, 1, 7]), sets=max(sets, 0))
 
 
 # ---- the files

@@ -22,8 +22,13 @@ from replay import framed, replies
 SEED, SOUND, DAMAGED, ANY = 5, 2200, 700, 100
 
 # how often each answer is given; main stops if it is otherwise
-GIVEN = {'match': 2159, 'refused 1': 288, 'refused 2': 124, 'refused 3': 190, 'refused 4': 391, 'refused 5': 62, 'refused 6': 412,
-         'refused 7': 393, 'refused 9': 756, 'refused 10': 488, 'refused 12': 542, 'cut off': 1}
+GIVEN = {'match': 2169, 'refused 1': 288, 'refused 2': 124, 'refused 3': 190, 'refused 4': 391, 'refused 5': 62, 'refused 6': 412,
+         'refused 7': 393, 'refused 9': 756, 'refused 10': 489, 'refused 12': 542, 'cut off': 1}
+
+
+def without_own_degrees(answer):
+    """The text with two numbers less in each variable's line: what is published does not have them."""
+    return ''.join(line.rsplit(' ', 2)[0] + '\n' if line[0] == 'x' else line for line in answer.splitlines(True))
 
 
 def published(asked):
@@ -31,7 +36,7 @@ def published(asked):
         if vector['kind'] == 'match':
             question, answer = bytes.fromhex(vector['question_hex']), vector['stdout']
             asked.ask(question, answer.split('\n')[0])
-            assert asked.answers[question] == answer, vector['id']
+            assert without_own_degrees(asked.answers[question]) == answer, vector['id']
 
 
 def drawn(asked):

@@ -18,7 +18,7 @@ class Questions:
         if told is not None and not answer.startswith(told + '\n'):
             sys.exit('question %.300s: %.300s, not %.300s' % (question.hex(), answer, told))
 
-    def match(self, table, pattern, heading, cut, told=None, spans=64, sets=None):
+    def match(self, table, pattern, heading, cut, told=None, spans=128, sets=None):
         """A case of the call. What it says of buffers is no matter here: the program's are long enough."""
         if told != 'refused 8 0':
             self.ask(reference.question(cut, pattern, heading, table), told)

@@ -196,14 +196,15 @@ def nearer(data, heading, one, two):
 # ---- the match
 
 class Match:
-    def __init__(self, lowest, highest, sets):
+    def __init__(self, lowest, highest, sets, own):
         self.lowest, self.highest = lowest, highest
         self.sets = sets                          # variable, in the order of first standing -> a list of sets, by position
+        self.own = own                            # variable -> its own lowest and highest degree
 
     def spans(self, room):
         out, start = [0] * room, 0
         for v, positions in self.sets.items():
-            out[2 * v:2 * v + 2] = [start, len(positions)]
+            out[4 * v:4 * v + 4] = [start, len(positions), *self.own[v]]
             start += len(positions)
         return out
 
@@ -255,7 +256,7 @@ def common(table, cut, terms):
     return found
 
 
-def match(data, pattern, heading, cut, spans_room=64, sets_room=None):
+def match(data, pattern, heading, cut, spans_room=128, sets_room=None):
     table = read_table(data)
     if not 1 <= cut <= 1000:
         raise Refused(5, 0)
@@ -263,7 +264,7 @@ def match(data, pattern, heading, cut, spans_room=64, sets_room=None):
     h = read_term(table, heading, False, 7)
     if sets_room is None:
         sets_room = 4 * len(heading)
-    if spans_room < 64 or sets_room < 4 * len(heading):
+    if spans_room < 128 or sets_room < 4 * len(heading):
         raise Refused(8, 0)
     symbols, variables = facing(table, p, h)
     for index, f, g in symbols:
@@ -279,13 +280,14 @@ def match(data, pattern, heading, cut, spans_room=64, sets_room=None):
     assert sum(map(len, sets.values())) <= len(heading)
     worst = [table.degree(f, g) for _, f, g in symbols]
     best = list(worst)
+    own = {}
     for v, positions in sets.items():
         columns = zip(*(preorder(t) for t in faced[v]))
-        for chosen, column in zip(positions, columns):
-            shared = [min(table.degree(s, x) for x in column) for s in chosen]
-            worst.append(min(shared))
-            best.append(max(shared))
-    return Match(min(worst), min(best), sets)
+        shared = [[min(table.degree(s, x) for x in column) for s in chosen] for chosen, column in zip(positions, columns)]
+        own[v] = min(map(min, shared)), min(map(max, shared))
+        worst.append(own[v][0])
+        best.append(own[v][1])
+    return Match(min(worst), min(best), sets, own)
 
 
 # ---- the asking program
@@ -293,7 +295,7 @@ def match(data, pattern, heading, cut, spans_room=64, sets_room=None):
 def answer_text(found):
     lines = ['match %d %d' % (found.lowest, found.highest)]
     for v in sorted(found.sets):
-        lines.append('x%d %d' % (v, len(found.sets[v])))
+        lines.append('x%d %d %d %d' % (v, len(found.sets[v]), *found.own[v]))
         lines += [' '.join(map(str, symbols)) for symbols in found.sets[v]]
     return ''.join(line + '\n' for line in lines)
 

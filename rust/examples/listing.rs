@@ -22,7 +22,7 @@ fn main() -> Result<(), Refusal> {
     let found = proved::match_heading(&table, &[0, VARIABLE, VARIABLE], &heading, 600, &mut spans, &mut sets)?;
 
     println!("match {} {}", found.lowest, found.highest);
-    println!("x0 {}", spans[1]);
+    println!("x0 {} {} {}", spans[1], spans[2], spans[3]);
     for set in sets.chunks(WORDS).take(spans[1].into()) {
         let stands = |k: &usize| set[k / 64] >> (k % 64) & 1 == 1;
         let symbols: Vec<_> = (0..256).filter(stands).map(|k| k.to_string()).collect();

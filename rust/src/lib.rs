@@ -45,7 +45,9 @@ pub const VARIABLE: u16 = 32768;
 pub const VARIABLES: usize = 32;
 /// The most nodes that a term may have.
 pub const MAX_NODES: usize = 1024;
+/// How many numbers a variable has in the spans: its first position, how many it has, its own lowest and highest degree.
+pub const SPAN: usize = 4;
 /// The length that the spans of a match must have at least.
-pub const SPANS: usize = 2 * VARIABLES;
+pub const SPANS: usize = SPAN * VARIABLES;
 /// How many words of a match's sets each node of the heading asks for.
 pub const WORDS: usize = 4;

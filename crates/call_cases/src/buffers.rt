@@ -12,7 +12,7 @@ use matching::search::Outcome;
 const GUARD: u16 = 9999;
 
 // More than any case lends.
-const SPANS: usize = 72;
+const SPANS: usize = 136;
 
 const SETS: usize = 4112;
 

@@ -17,6 +17,7 @@ pub mod Wrong
 pub mod WrongRefusals
 pub mod WrongAbsent
 pub mod WrongPlaces
+pub mod WrongOwn
 pub mod WrongAllowed
 -- a program that meets the statements keeps its promises
 pub mod Settled

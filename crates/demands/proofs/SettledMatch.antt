@@ -1,13 +1,13 @@
 -- What the statements leave open of the match: nothing. A refusal fixes both buffers. Of an answer, demand 2 fixes the degrees, and by any one matcher
--- the counts of positions; the order of packing then fixes the starts, the sentence on sets every bit at a variable's position, and all other
--- words are 0.
+-- the counts of positions; the order of packing then fixes the starts, the sentences on each variable its own degrees, the sentence on sets every bit
+-- at a variable's position, and all other words are 0.
 use mathlib.Core.Path.{_≡_, refl, sym as inv, ap, ap₂, _∙_, fun-ext}
 use mathlib.Core.Logic.{_⊎_, inl, inr}
 use mathlib.Core.List.{List}
 use mathlib.Core.Bool.{Bool, true, false, _&&_, false≢true}
 use mathlib.Core.Option.{Option, none, some as just}
-use Prim.Native.Nat.{ℕ, _+_, _*_, _-_, _/_, _%_, _^_, _≤_, _<_}
-use native.Mathlib.Decide.{decLt, ℕ-discrete}
+use Prim.Native.Nat.{ℕ, zero, suc, _+_, _*_, _-_, _/_, _%_, _^_, _≤_, _<_}
+use native.Mathlib.Decide.{decLt}
 use native.Mathlib.Omega.{arith}
 use lib.Dec.{ltb, leb}
 use lib.Seq.{ext-getD}
@@ -17,13 +17,14 @@ use Rattle.theory.specs.Tree.{Term, Pattern, stands}
 use Rattle.theory.specs.Table.{Table}
 use Rattle.theory.proofs.Lemmas.{and-true, and-left, and-right}
 use Rattle.theory.proofs.Corollaries.{one-lowest, one-highest}
+use Rattle.theory.proofs.Own.{one-lowest-for, one-highest-for}
 use Rattle.sets.proofs.Word.{word-is}
 use Rattle.meaning.specs.Limits.{wordBits, setWords, setRoom, variableCount, spanWidth}
 use Rattle.meaning.specs.File.{tableIn}
 use Rattle.meaning.specs.Refusals.{Refusal, refusal, first}
 use Rattle.meaning.specs.Packing.{firsts, startIn}
 use Rattle.meaning.specs.Calls.{refused, gives, degrees, Matched, inputRows, searchRows, matchRows}
-use Rattle.meaning.specs.Buffers.{firstPosition, positionCount, bit, holds}
+use Rattle.meaning.specs.Buffers.{firstPosition, positionCount, ownLowest, ownHighest, bit, holds}
 use Rattle.meaning.specs.Demands.{Exactly, WritesTerm, WritesPattern, Accepted, Found, Demand2 as MatchOf}
 use Rattle.meaning.specs.Matching.{standing, InSpan, Leaves}
 use Rattle.meaning.proofs.First.{append-none}
@@ -83,12 +84,33 @@ module _ (T : Table) (cut : ℕ) (p : Pattern) (h : Term) (pattern spans sets : 
           mr .packed _ (fr .answered) .starts v e ∙ ap (λ count. startIn count v (firsts (standing p))) (fun-ext counts) ∙ inv (ms .packed _ (fs .answered) .starts v e)
       go (yes l) false e = mr .packed _ (fr .answered) .absent v l e .0 ∙ inv (ms .packed _ (fs .answered) .absent v l e .0)
 
-  pub span-numbers : (i : ℕ) → getD (r .spans) i 0 ≡ getD (s .spans) i 0
-  span-numbers i = go (ℕ-discrete (i % spanWidth) 0)
+  own-lowest : (v : ℕ) → ownLowest (r .spans) v ≡ ownLowest (s .spans) v
+  own-lowest v = go (decLt v variableCount) (stands v p) refl
     where
-      go : Dec (i % spanWidth ≡ 0) → getD (r .spans) i 0 ≡ getD (s .spans) i 0
-      go (yes e) = let q : i ≡ spanWidth * (i / spanWidth) = omega arith in rw q (starts (i / spanWidth))
-      go (no e) = let q : i ≡ spanWidth * (i / spanWidth) + 1 = omega arith in rw q (counts (i / spanWidth))
+      go : Dec (v < variableCount) → (b : Bool) → stands v p ≡ b → ownLowest (r .spans) v ≡ ownLowest (s .spans) v
+      go (no m) b e = past (spanWidth * v + 2) (omega arith)
+      go (yes l) true e =
+          one-lowest-for T cut p h v _ _ (mr .own-degrees _ _ (fr .answered) .own-lowest v e) (ms .own-degrees _ _ (fs .answered) .own-lowest v e)
+      go (yes l) false e = mr .packed _ (fr .answered) .absent v l e .2 ∙ inv (ms .packed _ (fs .answered) .absent v l e .2)
+
+  own-highest : (v : ℕ) → ownHighest (r .spans) v ≡ ownHighest (s .spans) v
+  own-highest v = go (decLt v variableCount) (stands v p) refl
+    where
+      go : Dec (v < variableCount) → (b : Bool) → stands v p ≡ b → ownHighest (r .spans) v ≡ ownHighest (s .spans) v
+      go (no m) b e = past (spanWidth * v + 3) (omega arith)
+      go (yes l) true e =
+          one-highest-for T cut p h v _ _ (mr .own-degrees _ _ (fr .answered) .own-highest v e) (ms .own-degrees _ _ (fs .answered) .own-highest v e)
+      go (yes l) false e = mr .packed _ (fr .answered) .absent v l e .3 ∙ inv (ms .packed _ (fs .answered) .absent v l e .3)
+
+  pub span-numbers : (i : ℕ) → getD (r .spans) i 0 ≡ getD (s .spans) i 0
+  span-numbers i = go (i % spanWidth) refl
+    where
+      go : (j : ℕ) → i % spanWidth ≡ j → getD (r .spans) i 0 ≡ getD (s .spans) i 0
+      go zero e = let q : i ≡ spanWidth * (i / spanWidth) = omega arith in rw q (starts (i / spanWidth))
+      go (suc zero) e = let q : i ≡ spanWidth * (i / spanWidth) + 1 = omega arith in rw q (counts (i / spanWidth))
+      go (suc (suc zero)) e = let q : i ≡ spanWidth * (i / spanWidth) + 2 = omega arith in rw q (own-lowest (i / spanWidth))
+      go (suc (suc (suc zero))) e = let q : i ≡ spanWidth * (i / spanWidth) + 3 = omega arith in rw q (own-highest (i / spanWidth))
+      go (suc (suc (suc (suc j)))) e = absurd (omega arith)
 
   -- ---- the sets
 

@@ -36,7 +36,7 @@ use Rattle.demands.proofs.Instances.{met2}
 
 -- spans in which variable 31 has 5 and 3
 abbrev spoilt : List ℕ → List ℕ
-spoilt xs = set (set xs 62 5) 63 3
+spoilt xs = set (set xs 124 5) 125 3
 
 -- .. of an answer, where variable 31 does not stand in the pattern
 abbrev spoil : Answer Degrees → Bool → List ℕ → List ℕ
@@ -52,8 +52,8 @@ absent table pattern heading cut spans sets = spoiled (stands 31 (patternOf (tab
 
 -- ---- what is read of the variables that stand in the pattern is as it was
 
-other-numbers : (a : Answer Degrees) (b : Bool) (xs : List ℕ) (i : ℕ) → (i ≡ 62 → ⊥) → (i ≡ 63 → ⊥) → getD (spoil a b xs) i 0 ≡ getD xs i 0
-other-numbers (gives d) false xs i m n = getD-set-other (set xs 62 5) 63 i 3 0 n ∙ getD-set-other xs 62 i 5 0 m
+other-numbers : (a : Answer Degrees) (b : Bool) (xs : List ℕ) (i : ℕ) → (i ≡ 124 → ⊥) → (i ≡ 125 → ⊥) → getD (spoil a b xs) i 0 ≡ getD xs i 0
+other-numbers (gives d) false xs i m n = getD-set-other (set xs 124 5) 125 i 3 0 n ∙ getD-set-other xs 124 i 5 0 m
 other-numbers (gives d) true xs i m n = refl
 other-numbers (refused n place) b xs i m o = refl
 
@@ -97,22 +97,22 @@ module _ (T : Table) (cut : ℕ) (p : Pattern) (h : Term) (r : Matched) where
 
 -- ---- two answers are spoiled alike
 
-module _ (xs ys : List ℕ) (lx : 64 ≤ length xs) (ly : 64 ≤ length ys) (i : ℕ) (q : getD xs i 0 ≡ getD ys i 0) where
-  at63 : (zs : List ℕ) → 64 ≤ length zs → getD (spoilt zs) 63 0 ≡ 3
-  at63 zs l = getD-set-same (set zs 62 5) 63 3 0 (omega (arith, length-set zs 62 5))
+module _ (xs ys : List ℕ) (lx : 128 ≤ length xs) (ly : 128 ≤ length ys) (i : ℕ) (q : getD xs i 0 ≡ getD ys i 0) where
+  at125 : (zs : List ℕ) → 128 ≤ length zs → getD (spoilt zs) 125 0 ≡ 3
+  at125 zs l = getD-set-same (set zs 124 5) 125 3 0 (omega (arith, length-set zs 124 5))
 
-  at62 : (zs : List ℕ) → 64 ≤ length zs → getD (spoilt zs) 62 0 ≡ 5
-  at62 zs l = getD-set-other (set zs 62 5) 63 62 3 0 (λ e. omega arith) ∙ getD-set-same zs 62 5 0 (omega arith)
+  at124 : (zs : List ℕ) → 128 ≤ length zs → getD (spoilt zs) 124 0 ≡ 5
+  at124 zs l = getD-set-other (set zs 124 5) 125 124 3 0 (λ e. omega arith) ∙ getD-set-same zs 124 5 0 (omega arith)
 
   alike : getD (spoilt xs) i 0 ≡ getD (spoilt ys) i 0
-  alike = go (eqb i 63) refl (eqb i 62) refl
+  alike = go (eqb i 125) refl (eqb i 124) refl
     where
-      go : (b : Bool) → eqb i 63 ≡ b → (c : Bool) → eqb i 62 ≡ c → getD (spoilt xs) i 0 ≡ getD (spoilt ys) i 0
-      go true e c f = rw (eqb-true i 63 e) (at63 xs lx ∙ inv (at63 ys ly))
-      go false e true f = rw (eqb-true i 62 f) (at62 xs lx ∙ inv (at62 ys ly))
+      go : (b : Bool) → eqb i 125 ≡ b → (c : Bool) → eqb i 124 ≡ c → getD (spoilt xs) i 0 ≡ getD (spoilt ys) i 0
+      go true e c f = rw (eqb-true i 125 e) (at125 xs lx ∙ inv (at125 ys ly))
+      go false e true f = rw (eqb-true i 124 f) (at124 xs lx ∙ inv (at124 ys ly))
       go false e false f =
           let other : (zs : List ℕ) → getD (spoilt zs) i 0 ≡ getD zs i 0
-          = λ zs. getD-set-other (set zs 62 5) 63 i 3 0 (eqb-false i 63 e) ∙ getD-set-other zs 62 i 5 0 (eqb-false i 62 f) in
+          = λ zs. getD-set-other (set zs 124 5) 125 i 3 0 (eqb-false i 125 e) ∙ getD-set-other zs 124 i 5 0 (eqb-false i 124 f) in
           other xs ∙ q ∙ inv (other ys)
 
   spoiled-alike : (a a′ : Answer Degrees) (x x′ : Degrees) (b : Bool) → a ≡ gives x → a′ ≡ gives x′ → getD (spoil a b xs) i 0 ≡ getD (spoil a′ b ys) i 0
@@ -123,7 +123,7 @@ module _ (xs ys : List ℕ) (lx : 64 ≤ length xs) (ly : 64 ≤ length ys) (i :
       go false = alike
 
 -- an answered match has room for the spans
-long : (t p h : List ℕ) (c : ℕ) (sp se : List ℕ) (x : Degrees) → matchCall t p h c sp se .answer ≡ gives x → 64 ≤ length (matchCall t p h c sp se .spans)
+long : (t p h : List ℕ) (c : ℕ) (sp se : List ℕ) (x : Degrees) → matchCall t p h c sp se .answer ≡ gives x → 128 ≤ length (matchCall t p h c sp se .spans)
 long t p h c sp se x e = omega (arith, lengths .of-spans t p h c sp se, rooms t p h c sp se (answered-none t p h c sp se x e) .0)
 
 narrower-spoiled : (t p h : List ℕ) (c : ℕ) (sp se : List ℕ) (c′ : ℕ) (sp′ se′ : List ℕ) (l g : ℕ) → matchCall t p h c′ sp′ se′ .answer ≡ gives (degrees l g)
@@ -138,6 +138,7 @@ narrower-spoiled t p h c sp se c′ sp′ se′ l g e n =
       same-start = λ v m. same (spanWidth * v) (n .same-start v m);
       same-count = λ v m. same (spanWidth * v + 1) (n .same-count v m);
       same-highest = n .same-highest;
+      same-own-highest = λ v m. same (spanWidth * v + 3) (n .same-own-highest v m);
     }
   where
     same : (i : ℕ) → getD (matchCall t p h c′ sp′ se′ .spans) i 0 ≡ getD (matchCall t p h c sp se .spans) i 0 → getD (absent t p h c′ sp′ se′ .spans) i 0 ≡ getD (absent t p h c sp se .spans) i 0
@@ -178,7 +179,7 @@ absent-meets = (record { degree = demand2 .degree; match = of-match }, record { 
         }
 
 -- at the listing's question it has counted 3 for variable 31
-counted : (absent T p h 500 (zeros 64) (zeros 20) .answer ≡ gives (degrees 500 700)) × (positionCount (absent T p h 500 (zeros 64) (zeros 20) .spans) 31 ≡ 3)
+counted : (absent T p h 500 (zeros 128) (zeros 20) .answer ≡ gives (degrees 500 700)) × (positionCount (absent T p h 500 (zeros 128) (zeros 20) .spans) 31 ≡ 3)
 unfolding
     matched laterSpans matchRows inputRows searchRows facesIn packedCount packedSpans tableRows row1-short row1-offsets row2 row3 row4 row5 row6 row7 row8 row9 row10 tableIn aritiesIn pairsIn patternOf
     termOf parse parseRow walk several
@@ -189,7 +190,7 @@ pub absent-fails : (P : Program)
     → ((table pattern heading : List ℕ) (cut : ℕ) (spans sets : List ℕ) → P .match table pattern heading cut spans sets ≡ absent table pattern heading cut spans sets)
     → Further P → ⊥
 absent-fails P w f =
-    let e = w T p h 500 (zeros 64) (zeros 20) in
-    let s = f .matches T p h 500 (zeros 64) (zeros 20) (met2 .1) pattern-tree writes-P heading-tree writes-H in
+    let e = w T p h 500 (zeros 128) (zeros 20) in
+    let s = f .matches T p h 500 (zeros 128) (zeros 20) (met2 .1) pattern-tree writes-P heading-tree writes-H in
     let q = s .packed (degrees 500 700) (ap (λ r. r .answer) e ∙ counted .0) .absent 31 (lit< tt) refl .1 in
     omega (arith, q, ap (λ r. positionCount (r .spans) 31) e, counted .1)

@@ -27,16 +27,16 @@ use Rattle.demands.proofs.WrongPlaces.{pattern, heading, pattern-tree, 
 
 -- the right result, and that demand 2 is met by it
 abbrev right : Matched
-right = gave (1 ∷ 1 ∷ 0 ∷ 1 ∷ []) (224 ∷ 0 ∷ 0 ∷ 0 ∷ 224 ∷ 0 ∷ 0 ∷ 0 ∷ [])
+right = gave (1 ∷ 1 ∷ 500 ∷ 1000 ∷ 0 ∷ 1 ∷ 500 ∷ 1000 ∷ []) (224 ∷ 0 ∷ 0 ∷ 0 ∷ 224 ∷ 0 ∷ 0 ∷ 0 ∷ [])
 
-is-right : matchCall T pattern heading 500 (zeros 64) (zeros 12) ≡ right
+is-right : matchCall T pattern heading 500 (zeros 128) (zeros 12) ≡ right
 unfolding
     matched laterSpans laterSets matchRows inputRows searchRows facesIn packedCount packedSpans packedSets tableRows row1-short row1-offsets row2 row3 row4 row5 row6 row7 row8 row9 row10 tableIn aritiesIn pairsIn
     patternOf termOf parse parseRow walk several
 is-right = refl
 
 right-meets : MatchOf T pattern heading 500 right
-right-meets = subst (MatchOf T pattern heading 500) is-right (demand2 T pattern heading 500 (zeros 64) (zeros 12) passed)
+right-meets = subst (MatchOf T pattern heading 500) is-right (demand2 T pattern heading 500 (zeros 128) (zeros 12) passed)
 
 -- ---- results that one reads alike, as far as terms over T go
 

@@ -46,23 +46,23 @@ pub writes-heading : WritesTerm (tableIn T) heading heading-tree
 unfolding tableIn aritiesIn
 writes-heading = record { over = (lit< tt, refl, ((lit< tt, refl, tt), ((lit< tt, refl, tt), tt))); is = refl }
 
-pub passed : Accepted T pattern heading 500 (zeros 64) (zeros 12)
+pub passed : Accepted T pattern heading 500 (zeros 128) (zeros 12)
 unfolding inputRows tableRows row1-short row1-offsets row2 row3 row4 row5 row6 row7 row8 tableIn aritiesIn pairsIn walk several
 passed = refl
 
 -- an answer with these spans and these words in front
 abbrev pub gave : List ℕ → List ℕ → Matched
-gave spans words = record { answer = gives (degrees 500 1000); spans = spans ++ zeros 60; sets = words ++ zeros 4 }
+gave spans words = record { answer = gives (degrees 500 1000); spans = spans ++ zeros 120; sets = words ++ zeros 4 }
 
 -- ---- what a program that meets the statements gives
 
 module _ (P : Program) where
   abbrev pub given : Matched
-  given = P .match T pattern heading 500 (zeros 64) (zeros 12)
+  given = P .match T pattern heading 500 (zeros 128) (zeros 12)
 
   module _ (f : Further P) (answers : given .answer ≡ gives (degrees 500 1000)) where
     says : MatchSays (tableIn T) 500 pattern-tree heading-tree pattern given
-    says = f .matches T pattern heading 500 (zeros 64) (zeros 12) passed pattern-tree writes-pattern heading-tree writes-heading
+    says = f .matches T pattern heading 500 (zeros 128) (zeros 12) passed pattern-tree writes-pattern heading-tree writes-heading
 
     -- x1 starts at 0, and x0 where x1 ends
     first-start : firstPosition (given .spans) 1 ≡ 0
@@ -79,7 +79,7 @@ module _ (P : Program) where
 -- ---- two variables at position 0, and rubbish at position 1
 
 abbrev pub overlap : Matched
-overlap = gave (0 ∷ 1 ∷ 0 ∷ 1 ∷ []) (224 ∷ 0 ∷ 0 ∷ 0 ∷ 7 ∷ 7 ∷ 7 ∷ 7 ∷ [])
+overlap = gave (0 ∷ 1 ∷ 500 ∷ 1000 ∷ 0 ∷ 1 ∷ 500 ∷ 1000 ∷ []) (224 ∷ 0 ∷ 0 ∷ 0 ∷ 7 ∷ 7 ∷ 7 ∷ 7 ∷ [])
 
 -- THEOREM: it fails where the starts are spoken of (`PackedInOrder.starts`)
 pub overlap-fails : (P : Program) → given P ≡ overlap → Further P → ⊥
@@ -93,22 +93,22 @@ behind (suc zero) m = omega (arith, m .1)
 behind (suc (suc v)) m = omega (arith, m .1, none-at (spanWidth * suc (suc v)) (spanWidth * v) (omega arith), none-at (spanWidth * suc (suc v) + 1) (spanWidth * v + 1) (omega arith))
   where
     front : List ℕ
-    front = 0 ∷ 1 ∷ 0 ∷ 1 ∷ []
+    front = 0 ∷ 1 ∷ 500 ∷ 1000 ∷ 0 ∷ 1 ∷ 500 ∷ 1000 ∷ []
 
     none-at : (i j : ℕ) → i ≡ length front + j → getD (overlap .spans) i 0 ≡ 0
-    none-at i j e = ap (λ i. getD (overlap .spans) i 0) e ∙ getD-append-add front (zeros 60) j 0 ∙ getD-zeros 60 j
+    none-at i j e = ap (λ i. getD (overlap .spans) i 0) e ∙ getD-append-add front (zeros 120) j 0 ∙ getD-zeros 120 j
 
 -- THEOREM: and where all other words are (`Leaves.other-sets`)
 pub rubbish-fails : (P : Program) → given P ≡ overlap → Demand1 P → ⊥
 rubbish-fails P w d =
-    let l = d .match-leaves T pattern heading 500 (zeros 64) (zeros 12) in
+    let l = d .match-leaves T pattern heading 500 (zeros 128) (zeros 12) in
     let z = l .other-sets (degrees 500 1000) (ap (λ r. r .answer) w) 4 (λ v b m. behind v (subst (λ r. InSpan (r .spans) v 1) w m)) in
     omega (arith, z, ap (λ r. getD (r .sets) 4 0) w)
 
 -- ---- x0 before x1
 
 abbrev pub by-number : Matched
-by-number = gave (0 ∷ 1 ∷ 1 ∷ 1 ∷ []) (224 ∷ 0 ∷ 0 ∷ 0 ∷ 224 ∷ 0 ∷ 0 ∷ 0 ∷ [])
+by-number = gave (0 ∷ 1 ∷ 500 ∷ 1000 ∷ 1 ∷ 1 ∷ 500 ∷ 1000 ∷ []) (224 ∷ 0 ∷ 0 ∷ 0 ∷ 224 ∷ 0 ∷ 0 ∷ 0 ∷ [])
 
 -- THEOREM: it fails where the starts are spoken of (`PackedInOrder.starts`)
 pub by-number-fails : (P : Program) → given P ≡ by-number → Further P → ⊥
@@ -117,7 +117,7 @@ by-number-fails P w f = omega (arith, first-start P f (ap (λ r. r .answer) w), 
 -- ---- 8, which is no symbol of T, in x1's set
 
 abbrev pub extra : Matched
-extra = gave (1 ∷ 1 ∷ 0 ∷ 1 ∷ []) (480 ∷ 0 ∷ 0 ∷ 0 ∷ 224 ∷ 0 ∷ 0 ∷ 0 ∷ [])
+extra = gave (1 ∷ 1 ∷ 500 ∷ 1000 ∷ 0 ∷ 1 ∷ 500 ∷ 1000 ∷ []) (480 ∷ 0 ∷ 0 ∷ 0 ∷ 224 ∷ 0 ∷ 0 ∷ 0 ∷ [])
 
 -- THEOREM: it fails where the sets are spoken of (`SetsAndDegrees.sets`)
 pub extra-fails : (P : Program) → given P ≡ extra → Further P → ⊥

@@ -131,6 +131,7 @@ narrower-muddled c r s l g n =
       same-start = n .same-start;
       same-count = n .same-count;
       same-highest = n .same-highest;
+      same-own-highest = n .same-own-highest;
     }
 
 cuts-muddled : (T : Table) (p : Pattern) (h : Term) (c : ℕ) (r : Matched) (c′ : ℕ) (s : Matched) → TwoCuts T p h c r c′ s → TwoCuts T p h c (muddled r) c′ (muddled s)

@@ -14,7 +14,7 @@ use Rattle.meaning.specs.Calls.{Answer, refused, gives, degreeRows, aye, Degree
 use Rattle.meaning.specs.Demands.{WritesTerm, WritesPattern, Accepted}
 use Rattle.meaning.specs.Tables.{TableFile, TopNotListed, TopNotWritten, SymbolDegrees, ReadBack, RoundTrip}
 use Rattle.meaning.specs.Parts.{TermLists, Subterms, Nearest}
-use Rattle.meaning.specs.Matching.{Reasons, SetsAndDegrees, PackedInOrder, NoOverlap}
+use Rattle.meaning.specs.Matching.{Reasons, SetsAndDegrees, VariableDegrees, PackedInOrder, NoOverlap}
 use Rattle.meaning.specs.TopCut.{MatchersMakeIt, AtTopCut}
 use Rattle.demands.specs.Program.{Program, handedBack}
 
@@ -32,10 +32,11 @@ pub record HigherHanded (degreeWith : List ℕ → Answer ℕ) (one two list : L
   pub the-second : (d e : ℕ) → degreeWith one ≡ gives d → degreeWith two ≡ gives e → d < e → list ≡ two
 
 -- ---- a match that is not refused for its input or its room, of a list that writes p and one that writes h: the reasons of a refusal; the sets and
--- the degrees of an answer, where its variables are packed, and why they always fit
+-- the degrees of an answer, those of each variable, where its variables are packed, and why they always fit
 pub record MatchSays (T : Table) (cut : ℕ) (p : Pattern) (h : Term) (pattern : List ℕ) (r : Matched) : Type 0 where
   pub reasons : Reasons T cut p h pattern r
   pub sets-and-degrees : (low high : ℕ) → r .answer ≡ gives (degrees low high) → SetsAndDegrees T cut p h r low high
+  pub own-degrees : (low high : ℕ) → r .answer ≡ gives (degrees low high) → VariableDegrees T cut p h r low high
   pub packed : (d : Degrees) → r .answer ≡ gives d → PackedInOrder p r
   pub no-overlap : NoOverlap p h r
 

@@ -3,7 +3,7 @@ use mathlib.Core.Path.{_≡_}
 use mathlib.Core.List.{List}
 use Prim.Native.Nat.{ℕ, _+_}
 use native.Mathlib.Omega.{arith}
-use Rattle.meaning.specs.Buffers.{firstPosition, positionCount}
+use Rattle.meaning.specs.Buffers.{firstPosition}
 use Rattle.lines.specs.declared.line.Reply.{Reply}
 use Rattle.lines.specs.declared.line.Cursor.{Cursor}
 use Rattle.lines.specs.declared.line.Cursor.the-variants.{First, Variable, Position}
@@ -15,7 +15,7 @@ module _ (reply : Reply) (spans sets : List ℕ) {cursor next : Cursor} {out aft
   unfolding lineAt nextCursor
   text-first e p q = rw e (record { not-over = λ z. let f : _≡_ {A = ℕ} 0 1 = cc in omega arith; put = p; next-is = q })
 
-  pub text-variable : (v : ℕ) → cursor ≡ Variable v → PutBy out at (variableLine v (positionCount spans v)) n after → next ≡ Position v 0
+  pub text-variable : (v : ℕ) → cursor ≡ Variable v → PutBy out at (variableLine spans v) n after → next ≡ Position v 0
       → TextBy reply spans sets cursor out at n next after
   unfolding lineAt nextCursor
   text-variable v e p q = rw e (record { not-over = λ z. let f : _≡_ {A = ℕ} 0 1 = cc in omega arith; put = p; next-is = q })

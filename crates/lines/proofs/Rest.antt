@@ -15,7 +15,7 @@ use Rattle.theory.specs.Least.{collect}
 use Rattle.meaning.specs.Limits.{setRoom, variableCount}
 use Rattle.meaning.specs.Packing.{through}
 use Rattle.meaning.specs.Calls.{Matched}
-use Rattle.meaning.specs.Buffers.{firstPosition, positionCount, holds}
+use Rattle.meaning.specs.Buffers.{firstPosition, positionCount, ownLowest, ownHighest, holds}
 use Rattle.meaning.specs.Program.{decimal, matchWord, refusedWord, variableWord, variableLines}
 use Rattle.lines.specs.declared.line.Reply.{Reply}
 use Rattle.lines.specs.declared.line.Reply.the-variants.{Match, Refused}
@@ -73,13 +73,13 @@ module _ (reply : Reply) (spans sets : List ℕ) where
   rest = restAt reply spans sets
 
   -- the lines of a variable that has positions, and of one that has none
-  pub some-lines : (v : ℕ) → 0 < positionCount spans v → variableLines r v ≡ variableLine v (positionCount spans v) ++ positionsFrom spans sets v 0
+  pub some-lines : (v : ℕ) → 0 < positionCount spans v → variableLines r v ≡ variableLine spans v ++ positionsFrom spans sets v 0
   unfolding variableLine symbolsLine
   some-lines v l =
       let n = positionCount spans v in
       let f : ℕ → List ℕ = λ k. symbolsLine sets (firstPosition spans v + k) in
       let e : n ≡ n - 0 = omega arith in
-      rw (ne-eqb n 0 (λ z. omega arith)) (ap (λ t. variableLine v n ++ t) (through-upward f n ∙ ap (λ k. upward 0 k f) e))
+      rw (ne-eqb n 0 (λ z. omega arith)) (ap (λ t. variableLine spans v ++ t) (through-upward f n ∙ ap (λ k. upward 0 k f) e))
 
   pub no-lines : (v : ℕ) → positionCount spans v ≤ 0 → variableLines r v ≡ []
   no-lines v l = rw (eq-eqb (positionCount spans v) 0 (omega arith))
@@ -137,7 +137,7 @@ module _ (reply : Reply) (spans sets : List ℕ) where
       let f = variableLines (matchedBy reply spans sets) in
       upward-first f v variableCount (on .0)
       ∙ ap (λ t. t ++ variablesFrom (matchedBy reply spans sets) (v + 1)) (some-lines reply spans sets v (on .1))
-      ∙ append-assoc (variableLine v (positionCount spans v)) (positionsFrom spans sets v 0) (variablesFrom (matchedBy reply spans sets) (v + 1))
+      ∙ append-assoc (variableLine spans v) (positionsFrom spans sets v 0) (variablesFrom (matchedBy reply spans sets) (v + 1))
   rest-next (Position v k) on =
       let f : ℕ → List ℕ = λ i. symbolsLine sets (firstPosition spans v + i) in
       ap (λ t. t ++ variablesFrom (matchedBy reply spans sets) (v + 1)) (upward-first f k (positionCount spans v) (on .1))
@@ -210,7 +210,7 @@ module _ (reply : Reply) (spans sets : List ℕ) where
   some-byte : (cursor : Cursor) → (cursor ≡ End → ⊥) → 0 < length (lineAt reply spans sets cursor)
   unfolding lineAt variableLine symbolsLine
   some-byte First over = reply-some reply
-  some-byte (Variable v) over = line-some (variableWord v ∷ decimal (positionCount spans v) ∷ [])
+  some-byte (Variable v) over = line-some (variableWord v ∷ decimal (positionCount spans v) ∷ decimal (ownLowest spans v) ∷ decimal (ownHighest spans v) ∷ [])
   some-byte (Position v k) over = line-some (map decimal (collect setRoom (holds sets (firstPosition spans v + k))))
   some-byte End over = absurd (over refl)
 

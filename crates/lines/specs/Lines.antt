@@ -8,7 +8,7 @@ use lib.Dec.{eqb, ltb}
 use lib.ListN.{length}
 use Rattle.meaning.specs.Limits.{setWords, variableCount, spanWidth}
 use Rattle.meaning.specs.Calls.{Answer, refused, gives, Degrees, degrees, Matched}
-use Rattle.meaning.specs.Buffers.{firstPosition, positionCount}
+use Rattle.meaning.specs.Buffers.{firstPosition, positionCount, ownLowest, ownHighest}
 use Rattle.meaning.specs.Program.{decimal, line, matchWord, variableWord, positionLine, variableLines, refusedText, textOf}
 use Rattle.lines.specs.declared.line.Reply.{Reply}
 use Rattle.lines.specs.declared.line.Reply.the-variants.{Match, Refused}
@@ -40,8 +40,8 @@ unfoldable pub replyLine : Reply → List ℕ
 replyLine (Match low high) = line (matchWord ∷ decimal low ∷ decimal high ∷ [])
 replyLine (Refused n place) = refusedText n place
 
-unfoldable pub variableLine : ℕ → ℕ → List ℕ
-variableLine v count = line (variableWord v ∷ decimal count ∷ [])
+unfoldable pub variableLine : List ℕ → ℕ → List ℕ
+variableLine spans v = line (variableWord v ∷ decimal (positionCount spans v) ∷ decimal (ownLowest spans v) ∷ decimal (ownHighest spans v) ∷ [])
 
 unfoldable pub symbolsLine : List ℕ → ℕ → List ℕ
 symbolsLine sets position = positionLine sets position
@@ -49,7 +49,7 @@ symbolsLine sets position = positionLine sets position
 -- The line at a cursor.
 unfoldable pub lineAt : Reply → List ℕ → List ℕ → Cursor → List ℕ
 lineAt reply spans sets First = replyLine reply
-lineAt reply spans sets (Variable v) = variableLine v (positionCount spans v)
+lineAt reply spans sets (Variable v) = variableLine spans v
 lineAt reply spans sets (Position v k) = symbolsLine sets (firstPosition spans v + k)
 lineAt reply spans sets End = []
 

@@ -6,7 +6,7 @@ ghost use Prim.Native.Nat.{_+_, _*_, _≤_, _<_};
 ghost use lib.Dec.{eqb};
 ghost use lib.ListN.{length};
 ghost use Rattle.meaning.specs.Limits.{setWords, setRoom, variableCount, spanWidth};
-ghost use Rattle.meaning.specs.Buffers.{firstPosition, positionCount, holds};
+ghost use Rattle.meaning.specs.Buffers.{firstPosition, positionCount, ownLowest, ownHighest, holds};
 ghost use Rattle.meaning.specs.Program.{line};
 ghost use Rattle.text.specs.Texts.{PutBy, numeral};
 ghost use Rattle.lines.specs.Lines.{lineRoom, replyLine, variableLine, symbolsLine, seekFrom, afterReply, afterPosition, OnLine, Spanned, LineBy};
@@ -38,18 +38,35 @@ pub enum Line {
     Done,
 }
 
+// How many numbers a variable's span has.
+const SPAN: usize = 4;
+
 fn first_position(spans: &[u16], v: u16) -> u16
     requires { ⌜ (spanWidth * variableCount ≤ length (now spans)) × (v < variableCount) ⌝ }
     ensures { λ r. ⌜ r ≡ firstPosition (now (spans .entry)) v ⌝ }
 {
-    spans[2 * v as usize]
+    spans[SPAN * v as usize]
 }
 
 fn position_count(spans: &[u16], v: u16) -> u16
     requires { ⌜ (spanWidth * variableCount ≤ length (now spans)) × (v < variableCount) ⌝ }
     ensures { λ r. ⌜ r ≡ positionCount (now (spans .entry)) v ⌝ }
 {
-    spans[2 * v as usize + 1]
+    spans[SPAN * v as usize + 1]
+}
+
+fn own_lowest(spans: &[u16], v: u16) -> u16
+    requires { ⌜ (spanWidth * variableCount ≤ length (now spans)) × (v < variableCount) ⌝ }
+    ensures { λ r. ⌜ r ≡ ownLowest (now (spans .entry)) v ⌝ }
+{
+    spans[SPAN * v as usize + 2]
+}
+
+fn own_highest(spans: &[u16], v: u16) -> u16
+    requires { ⌜ (spanWidth * variableCount ≤ length (now spans)) × (v < variableCount) ⌝ }
+    ensures { λ r. ⌜ r ≡ ownHighest (now (spans .entry)) v ⌝ }
+{
+    spans[SPAN * v as usize + 3]
 }
 
 // ---- from line to line
@@ -121,12 +138,20 @@ fn put_reply(out: &mut [u8], at: usize, reply: Reply) -> usize
     }
 }
 
-fn put_variable(out: &mut [u8], at: usize, v: u16, count: u16) -> usize
-    requires { ⌜ at + lineRoom ≤ length (now out) ⌝ }
-    ensures { λ r. ⌜ PutBy (now (out .entry)) at (variableLine v count) r (now (out .exit)) ⌝ }
+// A variable's own line: its number, how many positions it has, and its own lowest and highest degree.
+fn put_variable(out: &mut [u8], at: usize, spans: &[u16], v: u16) -> usize
+    requires { ⌜ (at + lineRoom ≤ length (now out)) × (spanWidth * variableCount ≤ length (now spans)) × (v < variableCount) ⌝ }
+    ensures { λ r. ⌜ PutBy (now (out .entry)) at (variableLine (now (spans .entry)) v) r (now (out .exit)) ⌝ }
 {
+    let count = position_count(spans, v);
+    let lowest = own_lowest(spans, v);
+    let highest = own_highest(spans, v);
     let v_at = put_byte(out, at, 120);
-    put_numbers(out, v_at, v, count)
+    let v_end = put_number(out, v_at, v);
+    let count_at = put_byte(out, v_end, 32);
+    let count_end = put_number(out, count_at, count);
+    let lowest_at = put_byte(out, count_end, 32);
+    put_numbers(out, lowest_at, lowest, highest)
 }
 
 // Whether symbol k is in the set at a position.
@@ -178,10 +203,7 @@ pub fn next_line(
 {
     match cursor {
         Cursor::First => Line::Text(put_reply(out, at, reply), after_reply(reply, spans)),
-        Cursor::Variable(v) => Line::Text(
-            put_variable(out, at, v, position_count(spans, v)),
-            Cursor::Position(v, 0),
-        ),
+        Cursor::Variable(v) => Line::Text(put_variable(out, at, spans, v), Cursor::Position(v, 0)),
         Cursor::Position(v, k) => {
             let position = first_position(spans, v) as usize + k as usize;
             Line::Text(

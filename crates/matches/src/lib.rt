@@ -96,7 +96,7 @@ fn has_room(heading: &[u16], spans: &[u16], sets: &[u64]) -> bool
     requires { ⌜ length (now heading) ≤ 1024 ⌝ }
     ensures { λ r. ⌜ row8 (now (heading .entry)) (now (spans .entry)) (now (sets .entry)) ≡ row 8 (at0 (not r)) ⌝ }
 {
-    if spans.len() < 64 {
+    if spans.len() < 128 {
         return false;
     }
     SymbolSet::WORDS * heading.len() <= sets.len()

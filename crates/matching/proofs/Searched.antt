@@ -157,7 +157,7 @@ module _ (table pattern heading : List ℕ) (cut : ℕ) (spans sets : List ℕ) 
         pub answer-ends : matchCall table pattern heading cut spans sets
             ≡ record {
               answer = gives (degrees (lowestOf T cut fs) (highestOf T cut fs));
-              spans = packedSpans fs ++ zeros (length spans - length (packedSpans fs));
+              spans = packedSpans T cut fs ++ zeros (length spans - length (packedSpans T cut fs));
               sets = packedSets T cut fs ++ zeros (length sets - length (packedSets T cut fs));
             }
         unfolding searchRows facesIn row9 row10
@@ -195,5 +195,5 @@ module _ (table pattern heading : List ℕ) (cut : ℕ) (spans sets : List ℕ) 
                 left : length mid-sets - setWords * found .packed ≡ length sets - length (packedSets T cut fs)
                 left = omega (arith, packed-words T cut fs, r .packed, q)
 
-                spans-kept : mid-spans ≡ packedSpans fs ++ zeros (length spans - length (packedSpans fs))
-                spans-kept = r .spans-are ∙ ap (λ n. packedSpans fs ++ zeros (n - length (packedSpans fs))) p
+                spans-kept : mid-spans ≡ packedSpans T cut fs ++ zeros (length spans - length (packedSpans T cut fs))
+                spans-kept = r .spans-are ∙ ap (λ n. packedSpans T cut fs ++ zeros (n - length (packedSpans T cut fs))) p

@@ -1,30 +1,32 @@
--- Demand 3: what a second cut, not lower than the first, leaves of a match. Where variables are packed does not depend on the cut, each set
--- at the higher one is part of the set at the lower, and the rest is the theory's, of the two trees.
-use mathlib.Core.Path.{_≡_, sym as inv, _∙_}
+-- Demand 3: what a second cut, not lower than the first, leaves of a match. Where variables are packed and their own highest degrees do not depend on
+-- the cut, each set at the higher one is part of the set at the lower, and the rest is the theory's, of the two trees.
+use mathlib.Core.Path.{_≡_, refl, sym as inv, _∙_}
 use mathlib.Core.Logic.{_↔_}
-use mathlib.Core.List.{List}
-use mathlib.Core.Bool.{true}
+use mathlib.Core.List.{List, [], _∷_}
+use mathlib.Core.Bool.{Bool, true, false, cond}
 use mathlib.Core.Option.{none}
-use Prim.Native.Nat.{ℕ, _+_, _-_, _*_, _≤_, _<_}
+use Prim.Native.Nat.{ℕ, zero, suc, _+_, _-_, _*_, _≤_, _<_}
 use native.Mathlib.Omega.{arith}
 use lib.ListN.{length, getD}
 use Rattle.theory.specs.Tree.{Term, Pattern}
 use Rattle.theory.specs.Table.{Table, Lawful, Over, Overₚ}
-use Rattle.theory.specs.Faces.{Face, faces}
+use Rattle.theory.specs.Faces.{Face, faces, facing}
 use Rattle.theory.specs.Match.{lowestOf, highestOf, Matches}
 use Rattle.theory.specs.Decode.{patternOf, termOf}
 use Rattle.theory.proofs.Decoding.{fine-over}
 use Rattle.theory.proofs.Theorems.{answered, matchers-cut, answered-cut, highest-cut, sets-cut}
+use Rattle.theory.proofs.Own.{highest-for-cut}
 use Rattle.meaning.specs.Limits.{setRoom, variableCount, spanWidth}
 use Rattle.meaning.specs.File.{tableIn}
 use Rattle.meaning.specs.Refusals.{first}
-use Rattle.meaning.specs.Packing.{order, packedSpans, packedSets, setsOf}
+use Rattle.meaning.specs.Packing.{order, countOf, startIn, among, spanFrom, spanIn, packedSpans, packedSets, setsOf}
 use Rattle.meaning.specs.Calls.{gives, Degrees, degrees, zeros, facesIn, matchRows, matched, laterSpans, laterSets, matchCall}
 use Rattle.meaning.specs.Buffers.{holds}
 use Rattle.meaning.specs.Demands.{Accepted, Narrower, Demand3}
 use Rattle.meaning.proofs.First.{unless-gives}
 use Rattle.meaning.proofs.Bits.{holds-at}
 use Rattle.meaning.proofs.Packing.{span-at, sets-inside}
+use Rattle.meaning.proofs.Standing.{packed-stands}
 use Rattle.meaning.proofs.Matched.{Ready, ready, given-none, given-some, match-ends, spans-are, sets-are}
 
 same-degrees : (a b c d : ℕ) → degrees a b ≡ degrees c d → b ≡ d
@@ -74,11 +76,28 @@ module _ (table pattern heading : List ℕ) (cut₁ : ℕ) (spans₁ sets₁ : L
 
   -- what the buffers say where neither is refused
   module _ (e₁ : first (matchRows table pattern heading cut₁ spans₁ sets₁) ≡ none) (e₂ : first (matchRows table pattern heading cut₂ spans₂ sets₂) ≡ none) where
-    spans-same : (v j : ℕ) → v < variableCount → j < spanWidth
+    spans-same : (v j : ℕ) → v < variableCount → j < spanWidth → getD (spanIn T cut₂ fs (order fs) v) j 0 ≡ getD (spanIn T cut₁ fs (order fs) v) j 0
         → getD (laterSpans table pattern heading cut₂ spans₂ sets₂) (spanWidth * v + j) 0 ≡ getD (laterSpans table pattern heading cut₁ spans₁ sets₁) (spanWidth * v + j) 0
-    spans-same v j l m =
+    spans-same v j l m same =
         rw (spans-are table pattern heading cut₂ spans₂ sets₂ e₂, spans-are table pattern heading cut₁ spans₁ sets₁ e₁)
-        (span-at fs (zeros (length spans₂ - length (packedSpans fs))) v j l m ∙ inv (span-at fs (zeros (length spans₁ - length (packedSpans fs))) v j l m))
+        (span-at T cut₂ fs (zeros (length spans₂ - length (packedSpans T cut₂ fs))) v j l m
+        ∙ same
+        ∙ inv (span-at T cut₁ fs (zeros (length spans₁ - length (packedSpans T cut₁ fs))) v j l m))
+
+    -- where a variable is packed does not depend on the cut, nor does its own highest degree
+    same-span : (v : ℕ) → (j : ℕ) → (j ≡ 2 → ⊥) → getD (spanIn T cut₂ fs (order fs) v) j 0 ≡ getD (spanIn T cut₁ fs (order fs) v) j 0
+    same-span v = go (among v (order fs)) refl
+      where
+        at : ℕ → List ℕ
+        at cut = spanFrom T cut fs (startIn (countOf fs) v (order fs)) v
+
+        go : (b : Bool) → among v (order fs) ≡ b → (j : ℕ) → (j ≡ 2 → ⊥) → getD (cond b (at cut₂) (0 ∷ 0 ∷ 0 ∷ 0 ∷ [])) j 0 ≡ getD (cond b (at cut₁) (0 ∷ 0 ∷ 0 ∷ 0 ∷ [])) j 0
+        go true m zero n = refl
+        go true m (suc zero) n = refl
+        go true m (suc (suc zero)) n = absurd (n refl)
+        go true m (suc (suc (suc zero))) n = highest-for-cut T cut₁ cut₂ up (facing v fs) (none₂ .0 e₂ .forms v (packed-stands v p h m))
+        go true m (suc (suc (suc (suc j)))) n = refl
+        go false m j n = refl
 
     sets-narrow : (position symbol : ℕ) → symbol < setRoom
         → holds (laterSets table pattern heading cut₂ spans₂ sets₂) position symbol ≡ true
@@ -105,9 +124,10 @@ module _ (table pattern heading : List ℕ) (cut₁ : ℕ) (spans₁ sets₁ : L
         first-answers = rw e₁;
         reaches = b₁ .1;
         inside = sets-narrow e₁ (g .0);
-        same-start = λ v l. plain v (spans-same e₁ (g .0) v 0 l (omega arith));
-        same-count = λ v l. spans-same e₁ (g .0) v 1 l (omega arith);
+        same-start = λ v l. plain v (spans-same e₁ (g .0) v 0 l (omega arith) (same-span e₁ (g .0) v 0 (λ z. omega arith)));
+        same-count = λ v l. spans-same e₁ (g .0) v 1 l (omega arith) (same-span e₁ (g .0) v 1 (λ z. omega arith));
         same-highest = inv (same-degrees _ _ _ _ (g .1)) ∙ highest-cut T L p h op oh cut₁ cut₂ (r₁ .positive) up (r₂ .cut-top) b₂;
+        same-own-highest = λ v l. spans-same e₁ (g .0) v 3 l (omega arith) (same-span e₁ (g .0) v 3 (λ z. omega arith));
       }
     where
       plain : (v : ℕ) → getD (laterSpans table pattern heading cut₂ spans₂ sets₂) (spanWidth * v + 0) 0 ≡ getD (laterSpans table pattern heading cut₁ spans₁ sets₁) (spanWidth * v + 0) 0

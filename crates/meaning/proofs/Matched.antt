@@ -116,13 +116,13 @@ module _ (T : Table) (L : Lawful T) (c : ℕ) (pos : 0 < c) (cut : c ≤ 1000) (
 -- ---- the buffers of an answered match
 
 module _ (T : Table) (c : ℕ) (fs : List Face) where
-  pub packed : (m n v : ℕ) → v < variableCount → 0 < length (facing v fs) → Packed T c fs v (packedSpans fs ++ zeros m) (packedSets T c fs ++ zeros n)
+  pub packed : (m n v : ℕ) → v < variableCount → 0 < length (facing v fs) → Packed T c fs v (packedSpans T c fs ++ zeros m) (packedSets T c fs ++ zeros n)
   unfolding packedSets
   packed m n v l some =
       record {
         standing = s;
-        starts = ap (λ i. getD (packedSpans fs ++ zeros m) i 0) zero-more ∙ span-at fs (zeros m) v 0 l (omega arith) ∙ rw s;
-        counts = span-at fs (zeros m) v 1 l (omega arith) ∙ rw s;
+        starts = ap (λ i. getD (packedSpans T c fs ++ zeros m) i 0) zero-more ∙ span-at T c fs (zeros m) v 0 l (omega arith) ∙ rw s;
+        counts = span-at T c fs (zeros m) v 1 l (omega arith) ∙ rw s;
         held = λ p k b. holds-at (setsOf T c fs (order fs)) n p k b;
       }
     where
@@ -153,7 +153,7 @@ module _ (table pattern heading : List ℕ) (cut : ℕ) (spans sets : List ℕ) 
 
   -- the buffers, where no refusal is given
   pub spans-are : first (matchRows table pattern heading cut spans sets) ≡ none
-      → laterSpans table pattern heading cut spans sets ≡ packedSpans (faces p h) ++ zeros (length spans - length (packedSpans (faces p h)))
+      → laterSpans table pattern heading cut spans sets ≡ packedSpans T cut (faces p h) ++ zeros (length spans - length (packedSpans T cut (faces p h)))
   unfolding laterSpans facesIn
   spans-are e = rw e
 
@@ -193,10 +193,10 @@ module _ (table pattern heading : List ℕ) (cut : ℕ) (spans sets : List ℕ) 
       same : (v : ℕ) → stands v p ≡ true → (u : Term)
           → Drawn T cut (facing v fs) u ↔ DrawnFrom T (laterSpans table pattern heading cut spans sets) (laterSets table pattern heading cut spans sets) v u
       same v s u =
-          let m = length spans - length (packedSpans fs) in
+          let m = length spans - length (packedSpans T cut fs) in
           let n = length sets - length (packedSets T cut fs) in
           rw (spans-are e, sets-are e)
-          (drawn-from T (r .lawful) (r .small) cut (r .positive) (r .cut-top) fs v (packedSpans fs ++ zeros m) (packedSets T cut fs ++ zeros n)
+          (drawn-from T (r .lawful) (r .small) cut (r .positive) (r .cut-top) fs v (packedSpans T cut fs ++ zeros m) (packedSets T cut fs ++ zeros n)
           (packed T cut fs m n v (stands-small T v p op s) (some v s)) u (facing-over T p h oh v) (a .0 .forms v s) (some v s))
 
       there : (σ : ℕ → Term) → DrawnAll T cut p h σ → (v : ℕ) → stands v p ≡ true

@@ -1,5 +1,5 @@
 -- Laying numbers over a buffer step by step is laying them over it at once: what one step leaves behind its numbers is what stood there before.
-use mathlib.Core.Path.{_≡_, sym, ap, ap₂, _∙_}
+use mathlib.Core.Path.{_≡_, refl, sym, ap, ap₂, _∙_}
 use mathlib.Core.List.{List, [], _∷_, _++_, append-assoc}
 use Prim.Native.Nat.{ℕ, _+_, _≤_, _<_}
 use native.Mathlib.Nat.{zero-add}
@@ -35,7 +35,7 @@ pub over-next : (out : List ℕ) (at : ℕ) (xs : List ℕ) (n : ℕ) (ys : List
     → mid ≡ over out at xs → end ≡ over mid (at + n) ys → length xs ≡ n → at + n ≤ length out → end ≡ over out at (xs ++ ys)
 over-next out at xs n ys e f k l = f ∙ ap (λ m. over m (at + n) ys) e ∙ over-then out at xs n ys k l
 
--- one store, and two
+-- one store, two, and four
 pub over-one : (out : List ℕ) (at a : ℕ) → at < length out → set out at a ≡ over out at (a ∷ [])
 unfolding over
 over-one out at a l = sets-eq (a ∷ []) out at (omega arith)
@@ -43,6 +43,15 @@ over-one out at a l = sets-eq (a ∷ []) out at (omega arith)
 pub over-two : (out : List ℕ) (at a b : ℕ) → at + 2 ≤ length out → set (set out at a) (at + 1) b ≡ over out at (a ∷ b ∷ [])
 unfolding over
 over-two out at a b l = rw add-one (sets-eq (a ∷ b ∷ []) out at (omega arith))
+
+pub over-four : (out : List ℕ) (at a b c d : ℕ) → at + 4 ≤ length out
+    → set (set (set (set out at a) (at + 1) b) (at + 2) c) (at + 3) d ≡ over out at (a ∷ b ∷ c ∷ d ∷ [])
+over-four out at a b c d l =
+    let front = over out at (a ∷ b ∷ []) in
+    let i : at + 3 ≡ at + 2 + 1 = omega arith in
+    ap₂ (λ xs k. set (set xs (at + 2) c) k d) (over-two out at a b (omega arith)) i
+    ∙ over-two front (at + 2) c d (omega (arith, length-over out at (a ∷ b ∷ []) (omega arith)))
+    ∙ over-then out at (a ∷ b ∷ []) 2 (c ∷ d ∷ []) refl (omega arith)
 
 -- laid from the front on
 pub over-front : (out xs : List ℕ) → over out 0 xs ≡ xs ++ drop (length xs) out

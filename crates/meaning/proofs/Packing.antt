@@ -15,7 +15,7 @@ use Rattle.theory.specs.Faces.{Face, meets, binds, facing, keep}
 use Rattle.theory.specs.Match.{inSet}
 use Rattle.theory.proofs.Lemmas.{last-or-below}
 use Rattle.meaning.specs.Limits.{variableCount, spanWidth}
-use Rattle.meaning.specs.Packing.{through, variables, without, firsts, order, countOf, startIn, among, spanOf, packedSpans, setsOf}
+use Rattle.meaning.specs.Packing.{through, variables, without, firsts, order, countOf, startIn, among, spanFrom, spanIn, packedSpans, setsOf}
 
 -- ---- lists of equal width, one after the other
 
@@ -72,23 +72,26 @@ order-among v fs l = firsts-among v (variables fs) (variables-among v fs l)
 
 -- ---- spans
 
-span-wide : (fs : List Face) (v : ℕ) → length (spanOf fs v) ≡ spanWidth
-span-wide fs v = go (among v (order fs))
-  where
-    go : (b : Bool) → length (cond b (startIn (countOf fs) v (order fs) ∷ countOf fs v ∷ []) (0 ∷ 0 ∷ [])) ≡ spanWidth
-    go true = refl
-    go false = refl
+module _ (T : Table) (c : ℕ) (fs : List Face) where
+  -- LAW: a span's numbers
+  pub span-wide : (vs : List ℕ) (v : ℕ) → length (spanIn T c fs vs v) ≡ spanWidth
+  span-wide vs v = go (among v vs)
+    where
+      go : (b : Bool) → length (cond b (spanFrom T c fs (startIn (countOf fs) v vs) v) (0 ∷ 0 ∷ 0 ∷ 0 ∷ [])) ≡ spanWidth
+      go true = refl
+      go false = refl
 
-pub length-spans : (fs : List Face) → length (packedSpans fs) ≡ spanWidth * variableCount
-unfolding packedSpans
-length-spans fs = length-through (spanOf fs) spanWidth (span-wide fs) 0 variableCount
+  pub length-spans : length (packedSpans T c fs) ≡ spanWidth * variableCount
+  unfolding packedSpans
+  length-spans = length-through (spanIn T c fs (order fs)) spanWidth (span-wide (order fs)) 0 variableCount
 
--- LAW: the two numbers of a variable
-pub span-at : (fs : List Face) (rest : List ℕ) (v j : ℕ) → v < variableCount → j < spanWidth → getD (packedSpans fs ++ rest) (spanWidth * v + j) 0 ≡ getD (spanOf fs v) j 0
-unfolding packedSpans
-span-at fs rest v j l m =
-    List·getD-append (through variableCount (spanOf fs)) rest 0 (spanWidth * v + j) (omega (arith, length-through (spanOf fs) spanWidth (span-wide fs) 0 variableCount))
-    ∙ through-at (spanOf fs) spanWidth (span-wide fs) 0 variableCount v j l m
+  -- LAW: the numbers of a variable
+  pub span-at : (rest : List ℕ) (v j : ℕ) → v < variableCount → j < spanWidth → getD (packedSpans T c fs ++ rest) (spanWidth * v + j) 0 ≡ getD (spanIn T c fs (order fs) v) j 0
+  unfolding packedSpans
+  span-at rest v j l m =
+      let spans = spanIn T c fs (order fs) in
+      List·getD-append (through variableCount spans) rest 0 (spanWidth * v + j) (omega (arith, length-through spans spanWidth (span-wide (order fs)) 0 variableCount))
+      ∙ through-at spans spanWidth (span-wide (order fs)) 0 variableCount v j l m
 
 -- ---- sets
 

@@ -1,5 +1,5 @@
--- The degrees of a match as loops compute them: the least that the pattern's symbols bring, and the least that its variables bring, each
--- variable once. A variable brings the same wherever it stands, so that the order's numbers bring what all the nodes do.
+-- The degrees of a match as loops compute them: the least that the pattern's symbols bring, and the least of its variables' own degrees, each
+-- variable once. A variable's own degree is the same wherever it stands, so that the order's numbers bring what all the nodes do.
 use mathlib.Core.Path.{_≡_, refl, ap}
 use mathlib.Core.List.{List, [], _∷_, _++_}
 use mathlib.Core.Bool.{Bool, true, false, cond}
@@ -11,11 +11,11 @@ use borrow.Author.Tests.{eqb-true}
 use Rattle.theory.specs.Tree.{Term}
 use Rattle.theory.specs.Table.{Table}
 use Rattle.theory.specs.Least.{least, lowest, highest}
-use Rattle.theory.specs.Faces.{Face, meets, binds, facing}
-use Rattle.theory.specs.Match.{positions, shared, inSet, lowestAt, highestAt, brings, lowestOf, highestOf}
-use Rattle.theory.proofs.Lemmas.{least-top, least-append}
+use Rattle.theory.specs.Faces.{Face, meets, binds}
+use Rattle.theory.specs.Match.{shared, inSet, lowestAt, highestAt, brings, lowestOf, highestOf}
+use Rattle.theory.proofs.Lemmas.{least-top, least-append, lowest-top}
 use Rattle.meaning.specs.Packing.{variables, without, firsts, order}
-use Rattle.meaning.specs.Search.{symbolWorth, variableWorth}
+use Rattle.meaning.specs.Search.{symbolWorth}
 
 -- ---- one more
 
@@ -37,16 +37,9 @@ highest-last n f = rw add-one (omega arith)
 
 -- ---- degrees are at most 1000
 
-pub lowest-top : (n : ℕ) (f : ℕ → ℕ) → lowest n f ≤ 1000
-lowest-top zero f = omega arith
-lowest-top (suc n) f = omega (arith, lowest-top n f)
-
 pub highest-top : (n : ℕ) (f : ℕ → ℕ) → ((k : ℕ) → f k ≤ 1000) → highest n f ≤ 1000
 highest-top zero f h = omega arith
 highest-top (suc n) f h = omega (arith, h n, highest-top n f h)
-
-pub variableWorth-top : (rate : List Term → ℕ → ℕ) (fs : List Face) (v : ℕ) → variableWorth rate fs v ≤ 1000
-variableWorth-top rate fs v = lowest-top (positions (facing v fs)) (rate (facing v fs))
 
 module _ (T : Table) (c : ℕ) where
   pub lowestAt-top : (ts : List Term) (k : ℕ) → lowestAt T c ts k ≤ 1000
@@ -82,20 +75,13 @@ module _ (f : ℕ → ℕ) where
   least-firsts [] = refl
   least-firsts (x ∷ xs) = omega (arith, least-without x (firsts xs), least-firsts xs)
 
-module _ (T : Table) (rate : List Term → ℕ → ℕ) (fs : List Face) where
-  -- symbols and variables apart, over any of the nodes
-  least-apart : (xs : List Face) → least (brings T rate fs) xs ≡ min (least (symbolWorth T) xs) (least (variableWorth rate fs) (variables xs))
+module _ (T : Table) (own : ℕ → ℕ) where
+  -- symbols and variables apart
+  least-apart : (fs : List Face) → least (brings T own) fs ≡ min (least (symbolWorth T) fs) (least own (variables fs))
   least-apart [] = refl
-  least-apart (meets f g ∷ xs) = omega (arith, least-apart xs)
-  least-apart (binds v t ∷ xs) = omega (arith, least-apart xs, least-top (symbolWorth T) xs)
+  least-apart (meets f g ∷ fs) = omega (arith, least-apart fs)
+  least-apart (binds v t ∷ fs) = omega (arith, least-apart fs, least-top (symbolWorth T) fs)
 
   -- LAW: the least that a node brings
-  pub least-brings : least (brings T rate fs) fs ≡ min (least (symbolWorth T) fs) (least (variableWorth rate fs) (order fs))
-  least-brings = omega (arith, least-apart fs, least-firsts (variableWorth rate fs) (variables fs))
-
--- LAW: the lowest and the highest degree of a match
-pub lowestOf-apart : (T : Table) (c : ℕ) (fs : List Face) → lowestOf T c fs ≡ min (least (symbolWorth T) fs) (least (variableWorth (lowestAt T c) fs) (order fs))
-lowestOf-apart T c fs = least-brings T (lowestAt T c) fs
-
-pub highestOf-apart : (T : Table) (c : ℕ) (fs : List Face) → highestOf T c fs ≡ min (least (symbolWorth T) fs) (least (variableWorth (highestAt T c) fs) (order fs))
-highestOf-apart T c fs = least-brings T (highestAt T c) fs
+  pub least-brings : (fs : List Face) → least (brings T own) fs ≡ min (least (symbolWorth T) fs) (least own (order fs))
+  least-brings fs = omega (arith, least-apart fs, least-firsts own (variables fs))

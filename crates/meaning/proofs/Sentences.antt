@@ -103,8 +103,8 @@ module _ (table pattern heading : List ℕ) (cut : ℕ) (spans sets : List ℕ) 
       held : (v : ℕ) → stands v p ≡ true → (k : ℕ) → k < positionCount (laterSpans table pattern heading cut spans sets) v → (s : ℕ) → s < setRoom
           → holds (laterSets table pattern heading cut spans sets) (firstPosition (laterSpans table pattern heading cut spans sets) v + k) s ≡ inSet T cut (facing v fs) k s
       held v s =
-          let m = length spans - length (packedSpans fs) in
+          let m = length spans - length (packedSpans T cut fs) in
           let n = length sets - length (packedSets T cut fs) in
           let some = present T (r .lawful) cut (r .positive) v p h (fine-over T true p op) oh (none-clear T cut fs (q .0 .clear)) s in
           rw (spans-are table pattern heading cut spans sets (u .0), sets-are table pattern heading cut spans sets (u .0))
-          (held-at T cut fs v (packedSpans fs ++ zeros m) (packedSets T cut fs ++ zeros n) (packed T cut fs m n v (stands-small T v p op s) some))
+          (held-at T cut fs v (packedSpans T cut fs ++ zeros m) (packedSets T cut fs ++ zeros n) (packed T cut fs m n v (stands-small T v p op s) some))

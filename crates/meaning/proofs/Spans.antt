@@ -1,7 +1,7 @@
--- Where an answered match packs its variables, as one reads it in the spans: the two numbers of a variable are what was packed for it, 0 and 0 for one
+-- Where an answered match packs its variables, as one reads it in the spans: the numbers of a variable are what was packed for it, zeros for one
 -- that does not stand in the pattern; and where nothing clashes the order of packing is that of the pattern.
 use mathlib.Core.Path.{_≡_, refl, sym as inv, ap, ap₂, _∙_}
-use mathlib.Core.List.{List, [], _∷_, _++_}
+use mathlib.Core.List.{List, [], _∷_}
 use mathlib.Core.Bool.{Bool, true, false, cond}
 use mathlib.Core.Option.{none}
 use Prim.Native.Nat.{ℕ, _+_, _*_, _-_, _<_}
@@ -12,7 +12,8 @@ use borrow.Author.Tests.{eq-eqb}
 use Rattle.theory.specs.Tree.{Term, Pattern, stands}
 use Rattle.theory.specs.Table.{Table, Overₚ}
 use Rattle.theory.specs.Least.{All}
-use Rattle.theory.specs.Faces.{Face, faces}
+use Rattle.theory.specs.Faces.{Face, faces, facing}
+use Rattle.theory.specs.Match.{lowestFor, highestFor}
 use Rattle.theory.specs.Decode.{patternOf, termOf}
 use Rattle.theory.proofs.Decoding.{fine-over}
 use Rattle.theory.proofs.Matchers.{Clear, none-clear}
@@ -21,9 +22,9 @@ use Rattle.theory.proofs.Verdict.{stands-small}
 use Rattle.meaning.specs.Limits.{variableCount, spanWidth}
 use Rattle.meaning.specs.File.{tableIn}
 use Rattle.meaning.specs.Refusals.{first}
-use Rattle.meaning.specs.Packing.{firsts, order, countOf, startIn, among, spanOf, packedSpans}
+use Rattle.meaning.specs.Packing.{firsts, order, countOf, startIn, among, spanIn, packedSpans}
 use Rattle.meaning.specs.Calls.{gives, Degrees, zeros, inputRows, searchRows, matchRows, matched, laterSpans, matchCall}
-use Rattle.meaning.specs.Buffers.{firstPosition, positionCount}
+use Rattle.meaning.specs.Buffers.{firstPosition, positionCount, ownLowest, ownHighest}
 use Rattle.meaning.specs.Demands.{Accepted}
 use Rattle.meaning.specs.Matching.{standing, PackedInOrder}
 use Rattle.meaning.proofs.First.{append-none, unless-gives}
@@ -75,15 +76,12 @@ module _ (table pattern heading : List ℕ) (cut : ℕ) (spans sets : List ℕ) 
     r : Ready table pattern heading cut
     r = ready table pattern heading cut spans sets accepted
 
-    -- the two numbers of a variable
-    span-read : (v : ℕ) → v < variableCount → (firstPosition left v ≡ getD (spanOf fs v) 0 0) × (positionCount left v ≡ getD (spanOf fs v) 1 0)
-    span-read v l =
-        let n = length spans - length (packedSpans fs) in
-        let z : spanWidth * v ≡ spanWidth * v + 0 = omega arith in
-        rw (spans-are table pattern heading cut spans sets e) (
-          ap (λ i. getD (packedSpans fs ++ zeros n) i 0) z ∙ span-at fs (zeros n) v 0 l (omega arith),
-          span-at fs (zeros n) v 1 l (omega arith),
-        )
+    -- the numbers of a variable
+    number-read : (v j : ℕ) → v < variableCount → j < spanWidth → getD left (spanWidth * v + j) 0 ≡ getD (spanIn T cut fs (order fs) v) j 0
+    number-read v j l m = rw (spans-are table pattern heading cut spans sets e) (span-at T cut fs (zeros (length spans - length (packedSpans T cut fs))) v j l m)
+
+    first-read : (v : ℕ) → v < variableCount → firstPosition left v ≡ getD (spanIn T cut fs (order fs) v) 0 0
+    first-read v l = let z : spanWidth * v ≡ spanWidth * v + 0 = omega arith in ap (λ i. getD left i 0) z ∙ number-read v 0 l (omega arith)
 
     pub packed-small : (v : ℕ) → among v (order fs) ≡ true → v < variableCount
     packed-small v m = stands-small T v p (r .pattern-is .holds .fine) (packed-stands v p h m)
@@ -91,14 +89,18 @@ module _ (table pattern heading : List ℕ) (cut : ℕ) (spans sets : List ℕ) 
     -- LAW: of a variable that is packed
     pub packed-read : (v : ℕ) → among v (order fs) ≡ true → (firstPosition left v ≡ startIn (countOf fs) v (order fs)) × (positionCount left v ≡ countOf fs v)
     packed-read v m =
-        let s = span-read v (packed-small v m) in
-        (s .0 ∙ rw m, s .1 ∙ rw m)
+        let l = packed-small v m in
+        (first-read v l ∙ rw m, number-read v 1 l (omega arith) ∙ rw m)
 
-    absent : (v : ℕ) → v < variableCount → stands v p ≡ false → (firstPosition left v ≡ 0) × (positionCount left v ≡ 0)
+    pub own-read : (v : ℕ) → among v (order fs) ≡ true → (ownLowest left v ≡ lowestFor T cut (facing v fs)) × (ownHighest left v ≡ highestFor T cut (facing v fs))
+    own-read v m =
+        let l = packed-small v m in
+        (number-read v 2 l (omega arith) ∙ rw m, number-read v 3 l (omega arith) ∙ rw m)
+
+    pub absent : (v : ℕ) → v < variableCount → stands v p ≡ false → (firstPosition left v ≡ 0) × (positionCount left v ≡ 0) × (ownLowest left v ≡ 0) × (ownHighest left v ≡ 0)
     absent v l s =
         let m = absent-order v p h s in
-        let q = span-read v l in
-        (q .0 ∙ rw m, q .1 ∙ rw m)
+        (first-read v l ∙ rw m, number-read v 1 l (omega arith) ∙ rw m, number-read v 2 l (omega arith) ∙ rw m, number-read v 3 l (omega arith) ∙ rw m)
 
     op : Overₚ T p
     op = fine-over T true p (r .pattern-is .holds .fine)

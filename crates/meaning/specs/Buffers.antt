@@ -9,12 +9,18 @@ use Rattle.theory.specs.Tree.{Term, enc}
 use Rattle.theory.specs.Table.{Table, Over}
 use Rattle.meaning.specs.Limits.{wordBits, setWords, spanWidth}
 
--- A variable's span: its first position, and how many positions it has.
+-- A variable's span: its first position, how many positions it has, its own lowest and its own highest degree.
 abbrev pub firstPosition : List ℕ → ℕ → ℕ
 firstPosition spans v = getD spans (spanWidth * v) 0
 
 abbrev pub positionCount : List ℕ → ℕ → ℕ
 positionCount spans v = getD spans (spanWidth * v + 1) 0
+
+abbrev pub ownLowest : List ℕ → ℕ → ℕ
+ownLowest spans v = getD spans (spanWidth * v + 2) 0
+
+abbrev pub ownHighest : List ℕ → ℕ → ℕ
+ownHighest spans v = getD spans (spanWidth * v + 3) 0
 
 -- Bit k of a word, the lowest being bit 0.
 abbrev pub bit : ℕ → ℕ → Bool

@@ -26,4 +26,4 @@ abbrev pub variableCount : ℕ
 variableCount = 32
 
 abbrev pub spanWidth : ℕ
-spanWidth = 2
+spanWidth = 4

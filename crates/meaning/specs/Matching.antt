@@ -1,5 +1,6 @@
--- What else is said of the match: why it is refused, what its sets hold, where its variables are packed, what it leaves in lent memory.
--- Statements; the proofs are in proofs/Reasons, proofs/Sentences, proofs/Spans, proofs/NoOverlap and proofs/Lengths.
+-- What else is said of the match: why it is refused, what its sets hold, each variable's own degrees, where its variables are packed, what it leaves
+-- in lent memory.
+-- Statements; the proofs are in proofs/Reasons, proofs/Sentences, proofs/Own, proofs/Spans, proofs/NoOverlap and proofs/Lengths.
 use mathlib.Core.Path.{_≡_}
 use mathlib.Core.Logic.{_↔_}
 use mathlib.Core.List.{List, [], _∷_, _++_}
@@ -7,16 +8,16 @@ use mathlib.Core.Bool.{true, false}
 use Prim.Native.Nat.{ℕ, _+_, _*_, _/_, _^_, _≤_, _<_}
 use lib.ListN.{length, getD}
 use Rattle.theory.specs.Tree.{Term, Pattern, var, sym, Patterns, ∅ₚ, _▸_, enc, stands}
-use Rattle.theory.specs.Least.{All}
+use Rattle.theory.specs.Least.{All, least}
 use Rattle.theory.specs.Table.{Table}
 use Rattle.theory.specs.Faces.{faces, facing, taken}
-use Rattle.theory.specs.Match.{size, at, ClashAt}
+use Rattle.theory.specs.Match.{size, at, brings, ClashAt, IsLowestFor, IsHighestFor}
 use Rattle.theory.specs.Verdict.{MeansFormless}
 use Rattle.theory.specs.Pairs.{Pair}
 use Rattle.meaning.specs.Limits.{wordBits, setWords, setRoom, variableCount, spanWidth}
 use Rattle.meaning.specs.Packing.{firsts, sum, startIn}
 use Rattle.meaning.specs.Calls.{refused, gives, Degrees, zeros, Matched}
-use Rattle.meaning.specs.Buffers.{firstPosition, positionCount, holds}
+use Rattle.meaning.specs.Buffers.{firstPosition, positionCount, ownLowest, ownHighest, holds}
 use Rattle.meaning.specs.Tables.{Wrote}
 
 -- Refusals 9 and 10, of a match that is not refused by 1 to 8.
@@ -40,6 +41,14 @@ pub record SetsAndDegrees (T : Table) (cut : ℕ) (p : Pattern) (h : Term) (r : 
   pub highest-top : high ≤ 1000
   pub no-variables : ((v : ℕ) → stands v p ≡ false) → low ≡ high
 
+-- Each variable's own degrees in an answered match, as one reads them in the spans: what some matcher gives to the variable reaches them, and they
+-- bound what any gives. Together with the degrees of the symbols that face one another they make the match's: each of the two is the least of all.
+pub record VariableDegrees (T : Table) (cut : ℕ) (p : Pattern) (h : Term) (r : Matched) (low high : ℕ) : Type 0 where
+  pub own-lowest : (v : ℕ) → stands v p ≡ true → IsLowestFor T cut p h v (ownLowest (r .spans) v)
+  pub own-highest : (v : ℕ) → stands v p ≡ true → IsHighestFor T cut p h v (ownHighest (r .spans) v)
+  pub least-lowest : low ≡ least (brings T (ownLowest (r .spans))) (faces p h)
+  pub least-highest : high ≡ least (brings T (ownHighest (r .spans))) (faces p h)
+
 -- The variables of a pattern, in preorder, as often as they stand there.
 abbrev mutual
   pub standing : Pattern → List ℕ
@@ -50,10 +59,11 @@ abbrev mutual
   standings ∅ₚ = []
   standings (p ▸ ps) = standing p ++ standings ps
 
--- Where an answered match has packed its variables: one that does not stand in the pattern has 0 and 0; each of the others begins where those end
+-- Where an answered match has packed its variables: one that does not stand in the pattern has four zeros; each of the others begins where those end
 -- that the pattern has before it.
 pub record PackedInOrder (p : Pattern) (r : Matched) : Type 0 where
-  pub absent : (v : ℕ) → v < variableCount → stands v p ≡ false → (firstPosition (r .spans) v ≡ 0) × (positionCount (r .spans) v ≡ 0)
+  pub absent : (v : ℕ) → v < variableCount → stands v p ≡ false
+      → (firstPosition (r .spans) v ≡ 0) × (positionCount (r .spans) v ≡ 0) × (ownLowest (r .spans) v ≡ 0) × (ownHighest (r .spans) v ≡ 0)
   pub starts : (v : ℕ) → stands v p ≡ true → firstPosition (r .spans) v ≡ startIn (positionCount (r .spans)) v (firsts (standing p))
 
 -- Unless a symbol clashes, what faces the pattern's nodes is the heading, one behind the other: subterms that face different nodes never overlap. So

@@ -2,21 +2,15 @@
 use mathlib.Core.List.{List, [], _∷_}
 use mathlib.Core.Bool.{Bool, not, cond}
 use Prim.Native.Nat.{ℕ, min}
-use Rattle.theory.specs.Tree.{Term}
 use Rattle.theory.specs.Table.{Table}
-use Rattle.theory.specs.Least.{lowest}
 use Rattle.theory.specs.Faces.{Face, meets, binds, facing}
-use Rattle.theory.specs.Match.{positions, formed}
+use Rattle.theory.specs.Match.{formed}
 use Rattle.meaning.specs.Limits.{variableCount}
 
 -- What a node brings as a symbol: a variable's node takes nothing from the least.
 abbrev pub symbolWorth : Table → Face → ℕ
 symbolWorth T (meets f g) = T .deg f g
 symbolWorth T (binds v t) = 1000
-
--- What a variable brings where its positions are rated so.
-abbrev pub variableWorth : (List Term → ℕ → ℕ) → List Face → ℕ → ℕ
-variableWorth rate fs v = lowest (positions (facing v fs)) (rate (facing v fs))
 
 -- The variable has no form.
 abbrev pub unformed : Table → ℕ → List Face → ℕ → Bool

@@ -13,14 +13,13 @@ use lib.Dec.{ltb, leb, eqb}
 use Rattle.theory.specs.Least.{some, lowest}
 use Rattle.theory.specs.Table.{Table}
 use Rattle.theory.specs.Pairs.{Pair, pair, isPair, SoundPair}
-use Rattle.theory.proofs.Lemmas.{the-most, and-true, and-left, and-right, or-right, lowest-le, le-lowest}
+use Rattle.theory.proofs.Lemmas.{the-most, and-true, and-left, and-right, or-right, lowest-le, lowest-top, le-lowest}
 use Rattle.meaning.specs.Limits.{setRoom}
 use Rattle.meaning.specs.File.{pairCount, pairAt, aritiesIn, tableIn}
 use Rattle.meaning.specs.Refusals.{SoundFile}
 use Rattle.meaning.specs.Tables.{pairStart, lowerAt, higherAt, degreeAt}
 use Rattle.meaning.proofs.Bytes.{pair-in}
 use Rattle.meaning.proofs.Sound.{sound}
-use Rattle.meaning.proofs.Rated.{lowest-top}
 use Rattle.table.proofs.Reading.{sound-at}
 use Rattle.near.specs.Near.{inNear, farthest, isNear, NearSets, OwnSets, PairJoined}
 use Rattle.near.specs.OnePass.{brings, walked}

@@ -61,7 +61,7 @@ pub fn say_too_long(k: u64, out: &mut [u8], used: usize) -> Pending
     requires { ⌜ (used ≤ length (now out)) × (2048 ≤ length (now out)) ⌝ }
     ensures { λ r. ⌜ Standing (length (now (out .entry))) r ⌝ }
 {
-    let spans = [0u16; 64];
+    let spans = [0u16; 128];
     let sets = [0u64; 4];
     match say_title(k, out, used) {
         Pending::Bytes(at) => put_answer(Reply::Refused(12, 0), &spans, &sets, out, at),

@@ -137,18 +137,18 @@ module _ {table pattern heading : List ℕ} {cut : ℕ} {starts sizes : List ℕ
         below : v < variableCount
         below = variable-kind (T .size) (getD pattern i 0) v is .1
 
-        count-is : getD spans (spanWidth * v + 1) 0 ≡ getD (spansIn fs (order (take i fs)) ++ zeros n) (spanWidth * v + 1) 0
+        count-is : getD spans (spanWidth * v + 1) 0 ≡ getD (spansIn T cut fs (order (take i fs)) ++ zeros n) (spanWidth * v + 1) 0
         count-is = ap (λ l. getD l (spanWidth * v + 1) 0) (h .spanned)
 
         -- LAW: at a variable that has a span
         pub along-met : (getD spans (spanWidth * v + 1) 0 ≡ 0 → ⊥) → Done (i + 1) n before search spans sets
-        along-met some = same-order (order-met gathers (span-some fs (order (take i fs)) v (zeros n) below (λ e. some (count-is ∙ e))))
+        along-met some = same-order (order-met gathers (span-some T cut fs (order (take i fs)) v (zeros n) below (λ e. some (count-is ∙ e))))
 
         -- LAW: at a variable that has none
         pub new-at : getD spans (spanWidth * v + 1) 0 ≡ 0 → NewAt T fs (length heading) i v (search .packed)
         new-at none =
             let some = stands-somewhere gathers in
-            let new = span-none fs (order (take i fs)) v (zeros n) below some (inv count-is ∙ none) in
+            let new = span-none T cut fs (order (take i fs)) v (zeros n) below some (inv count-is ∙ none) in
             record {
               gathers = gathers;
               below = below;

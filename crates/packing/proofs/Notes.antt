@@ -56,17 +56,21 @@ pub noted-next : {T : Table} {cut : ℕ} {fs : List Face} {v n : ℕ} {heading s
     → OwnNotes heading starts sizes n (facing v fs) → PackedTo T cut (facing v fs) (search .packed) (countOf fs v) sets sets′ form low high
     → after .packed ≡ search .packed + getD sizes 0 0 → after .lacking ≡ cond form (search .lacking) (min (search .lacking) v)
     → after .lowest ≡ min (search .lowest) low → after .highest ≡ min (search .highest) high
-    → spans′ ≡ over spans (spanWidth * v) (search .packed ∷ getD sizes 0 0 ∷ [])
+    → spans′ ≡ over spans (spanWidth * v) (search .packed ∷ getD sizes 0 0 ∷ low ∷ high ∷ [])
     → PackedNext T cut fs v search after spans spans′ sets sets′
-noted-next {v = v} {search = search} {spans = spans} notes p many lacks low high span =
+noted-next {v = v} {search = search} {spans = spans} notes p many lacks lows highs span =
     record {
       packed = many ∙ ap (λ n. search .packed + n) (inv (notes .first));
       lacking = lacks ∙ ap (λ b. cond b (search .lacking) (min (search .lacking) v)) (p .forms);
-      lowest = low ∙ ap (min (search .lowest)) (p .at-worst);
-      highest = high ∙ ap (min (search .highest)) (p .at-best);
-      span = span ∙ ap (λ n. over spans (spanWidth * v) (search .packed ∷ n ∷ [])) (inv (notes .first));
+      lowest = lows ∙ ap (min (search .lowest)) (p .at-worst);
+      highest = highs ∙ ap (min (search .highest)) (p .at-best);
+      span = span ∙ numbers (inv (notes .first)) (p .at-worst) (p .at-best);
       words = p .words;
     }
+  where
+    numbers : {n m l g l′ g′ : ℕ} → n ≡ m → l ≡ l′ → g ≡ g′
+        → over spans (spanWidth * v) (search .packed ∷ n ∷ l ∷ g ∷ []) ≡ over spans (spanWidth * v) (search .packed ∷ m ∷ l′ ∷ g′ ∷ [])
+    numbers a b c = cc
 
 -- ---- the notes of all
 

@@ -10,18 +10,18 @@ use lib.ListN.{length}
 use Rattle.theory.specs.Table.{Table}
 use Rattle.theory.specs.Least.{least}
 use Rattle.theory.specs.Faces.{Face, facing}
-use Rattle.theory.specs.Match.{formed, lowestAt, highestAt}
+use Rattle.theory.specs.Match.{formed, lowestFor, highestFor}
 use Rattle.theory.proofs.Lemmas.{least-top}
 use Rattle.meaning.specs.Limits.{setWords, variableCount, spanWidth}
-use Rattle.meaning.specs.Packing.{through, order, countOf, sum, among, packedCount, setsOf, allWords, packedSets}
+use Rattle.meaning.specs.Packing.{through, order, countOf, sum, among, spanFrom, packedCount, setsOf, allWords, packedSets}
 use Rattle.meaning.specs.Calls.{zeros}
-use Rattle.meaning.specs.Search.{symbolWorth, variableWorth, unformed, worst}
+use Rattle.meaning.specs.Search.{symbolWorth, unformed, worst}
 use Rattle.meaning.specs.Over.{over}
 use Rattle.meaning.proofs.Lacking.{worst-bad, worst-good}
 use Rattle.meaning.proofs.Loop.{sum-last}
 use Rattle.meaning.proofs.Over.{over-none, over-next}
 use Rattle.meaning.proofs.Packing.{one}
-use Rattle.meaning.proofs.Rated.{least-last, lowestOf-apart, highestOf-apart}
+use Rattle.meaning.proofs.Rated.{least-last, least-brings}
 use Rattle.meaning.proofs.Words.{words-append, sets-last, words-many}
 use Rattle.packing.specs.Pack.{PackedNext, PackedAll}
 use Rattle.packing.specs.declared.Search.{Search}
@@ -31,9 +31,9 @@ use Rattle.packing.proofs.Spans.{spansIn, spans-none, spans-next, spans
 pub record Searched (T : Table) (cut : ℕ) (fs : List Face) (vs : List ℕ) (n : ℕ) (before : List ℕ) (search : Search) (spans sets : List ℕ) : Type 0 where
   pub many : search .packed ≡ sum (countOf fs) vs
   pub lacks : search .lacking ≡ worst (unformed T cut fs) vs
-  pub low : search .lowest ≡ min (least (symbolWorth T) fs) (least (variableWorth (lowestAt T cut) fs) vs)
-  pub high : search .highest ≡ min (least (symbolWorth T) fs) (least (variableWorth (highestAt T cut) fs) vs)
-  pub spanned : spans ≡ spansIn fs vs ++ zeros n
+  pub low : search .lowest ≡ min (least (symbolWorth T) fs) (least (λ v. lowestFor T cut (facing v fs)) vs)
+  pub high : search .highest ≡ min (least (symbolWorth T) fs) (least (λ v. highestFor T cut (facing v fs)) vs)
+  pub spanned : spans ≡ spansIn T cut fs vs ++ zeros n
   pub words : sets ≡ over before 0 (allWords (setsOf T cut fs vs))
 
 module _ (T : Table) (cut : ℕ) (fs : List Face) (n : ℕ) (before : List ℕ) where
@@ -46,7 +46,7 @@ module _ (T : Table) (cut : ℕ) (fs : List Face) (n : ℕ) (before : List ℕ) 
         lacks = refl;
         low = omega (arith, least-top (symbolWorth T) fs);
         high = omega (arith, least-top (symbolWorth T) fs);
-        spanned = z ∙ spans-none fs n;
+        spanned = z ∙ spans-none T cut fs n;
         words = over-none before 0;
       }
 
@@ -59,11 +59,11 @@ module _ (T : Table) (cut : ℕ) (fs : List Face) (n : ℕ) (before : List ℕ) 
       record {
         many = omega (arith, p .packed, h .many, sum-last (countOf fs) v vs);
         lacks = p .lacking ∙ lacking (formed T cut (facing v fs)) refl;
-        low = omega (arith, p .lowest, h .low, least-last (variableWorth (lowestAt T cut) fs) vs v);
-        high = omega (arith, p .highest, h .high, least-last (variableWorth (highestAt T cut) fs) vs v);
+        low = omega (arith, p .lowest, h .low, least-last (λ v. lowestFor T cut (facing v fs)) vs v);
+        high = omega (arith, p .highest, h .high, least-last (λ v. highestFor T cut (facing v fs)) vs v);
         spanned = p .span
-            ∙ ap (λ l. over l (spanWidth * v) (search .packed ∷ countOf fs v ∷ [])) (h .spanned)
-            ∙ spans-next fs vs v (search .packed) (zeros n) new l (h .many);
+            ∙ ap (λ l. over l (spanWidth * v) (spanFrom T cut fs (search .packed) v)) (h .spanned)
+            ∙ spans-next T cut fs vs v (search .packed) (zeros n) new l (h .many);
         words = over-next before 0 packed (setWords * search .packed) added (h .words) (rw zero-add (p .words)) (omega (arith, words-many T cut fs vs, h .many)) (omega arith)
             ∙ ap (over before 0) behind;
       }
@@ -88,8 +88,8 @@ module _ (T : Table) (cut : ℕ) (fs : List Face) (n : ℕ) (before : List ℕ) 
       record {
         packed = h .many;
         lacking = h .lacks;
-        lowest = h .low ∙ inv (lowestOf-apart T cut fs);
-        highest = h .high ∙ inv (highestOf-apart T cut fs);
-        spans-are = spans-all fs n (h .spanned);
+        lowest = h .low ∙ inv (least-brings T (λ v. lowestFor T cut (facing v fs)) fs);
+        highest = h .high ∙ inv (least-brings T (λ v. highestFor T cut (facing v fs)) fs);
+        spans-are = spans-all T cut fs n (h .spanned);
         sets-are = h .words;
       }

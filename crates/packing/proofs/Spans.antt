@@ -11,13 +11,14 @@ use lib.Dec.{eqb}
 use lib.ListN.{length, getD, drop, length-append, length-replicate, List·getD-append, replicate-append-replicate}
 use lib.Seq.{take-at, drop-at, drop-append-add}
 use borrow.Author.Tests.{eq-eqb, ne-eqb}
+use Rattle.theory.specs.Table.{Table}
 use Rattle.theory.specs.Faces.{Face}
 use Rattle.meaning.specs.Limits.{variableCount, spanWidth}
-use Rattle.meaning.specs.Packing.{through, order, countOf, sum, startIn, among, packedSpans}
+use Rattle.meaning.specs.Packing.{through, order, countOf, sum, among, spanFrom, spanIn, packedSpans}
 use Rattle.meaning.specs.Calls.{zeros}
 use Rattle.meaning.specs.Over.{over}
 use Rattle.meaning.proofs.Loop.{start-last, start-stays}
-use Rattle.meaning.proofs.Packing.{length-through, through-at}
+use Rattle.meaning.proofs.Packing.{length-through, through-at, span-wide}
 
 -- ---- one of lists that follow one another, laid over
 
@@ -67,30 +68,19 @@ among-last w v (x ∷ vs) = go (eqb w x) (among-last w v vs)
 
 -- ---- the spans
 
-module _ (fs : List Face) where
-  -- a variable's span, where these are packed
-  abbrev pub spanIn : List ℕ → ℕ → List ℕ
-  spanIn vs v = cond (among v vs) (startIn (countOf fs) v vs ∷ countOf fs v ∷ []) (0 ∷ 0 ∷ [])
-
-  span-wide : (vs : List ℕ) (v : ℕ) → length (spanIn vs v) ≡ spanWidth
-  span-wide vs v = go (among v vs)
-    where
-      go : (b : Bool) → length (cond b (startIn (countOf fs) v vs ∷ countOf fs v ∷ []) (0 ∷ 0 ∷ [])) ≡ spanWidth
-      go true = refl
-      go false = refl
-
-  span-other : (vs : List ℕ) (v w : ℕ) → (w ≡ v → ⊥) → spanIn vs w ≡ spanIn (vs ++ (v ∷ [])) w
+module _ (T : Table) (cut : ℕ) (fs : List Face) where
+  span-other : (vs : List ℕ) (v w : ℕ) → (w ≡ v → ⊥) → spanIn T cut fs vs w ≡ spanIn T cut fs (vs ++ (v ∷ [])) w
   span-other vs v w n = go (among w vs) refl
     where
-      go : (b : Bool) → among w vs ≡ b → spanIn vs w ≡ spanIn (vs ++ (v ∷ [])) w
+      go : (b : Bool) → among w vs ≡ b → spanIn T cut fs vs w ≡ spanIn T cut fs (vs ++ (v ∷ [])) w
       go true e = rw (among-last w v vs, e, start-stays (countOf fs) w v vs e)
       go false e = rw (among-last w v vs, e, ne-eqb w v n)
 
-  span-new : (vs : List ℕ) (v : ℕ) → among v vs ≡ false → spanIn (vs ++ (v ∷ [])) v ≡ sum (countOf fs) vs ∷ countOf fs v ∷ []
+  span-new : (vs : List ℕ) (v : ℕ) → among v vs ≡ false → spanIn T cut fs (vs ++ (v ∷ [])) v ≡ spanFrom T cut fs (sum (countOf fs) vs) v
   span-new vs v e = rw (among-last v v vs, e, eq-eqb v v refl, start-last (countOf fs) v vs e)
 
   unfoldable pub spansIn : List ℕ → List ℕ
-  spansIn vs = through variableCount (spanIn vs)
+  spansIn vs = through variableCount (spanIn T cut fs vs)
 
   -- LAW: none
   pub spans-none : (n : ℕ) → zeros (spanWidth * variableCount + n) ≡ spansIn [] ++ zeros n
@@ -99,29 +89,29 @@ module _ (fs : List Face) where
 
   -- LAW: one variable more
   pub spans-next : (vs : List ℕ) (v first : ℕ) (rest : List ℕ) → among v vs ≡ false → v < variableCount → first ≡ sum (countOf fs) vs
-      → over (spansIn vs ++ rest) (spanWidth * v) (first ∷ countOf fs v ∷ []) ≡ spansIn (vs ++ (v ∷ [])) ++ rest
+      → over (spansIn vs ++ rest) (spanWidth * v) (spanFrom T cut fs first v) ≡ spansIn (vs ++ (v ∷ [])) ++ rest
   unfolding spansIn
   spans-next vs v first rest e l f =
-      ap (over (through variableCount (spanIn vs) ++ rest) (spanWidth * v)) (ap (λ n. n ∷ countOf fs v ∷ []) f ∙ inv (span-new vs v e))
-      ∙ over-through (spanIn vs) (spanIn (vs ++ (v ∷ []))) spanWidth v (span-wide vs) (span-wide (vs ++ (v ∷ []))) (λ w. span-other vs v w) variableCount rest l
+      ap (over (through variableCount (spanIn T cut fs vs) ++ rest) (spanWidth * v)) (ap (λ n. spanFrom T cut fs n v) f ∙ inv (span-new vs v e))
+      ∙ over-through (spanIn T cut fs vs) (spanIn T cut fs (vs ++ (v ∷ []))) spanWidth v (span-wide T cut fs vs) (span-wide T cut fs (vs ++ (v ∷ []))) (λ w. span-other vs v w) variableCount rest l
 
-  order-spans : spansIn (order fs) ≡ packedSpans fs
+  order-spans : spansIn (order fs) ≡ packedSpans T cut fs
   unfolding spansIn packedSpans
   order-spans = refl
 
   -- LAW: all
-  pub spans-all : (n : ℕ) {spans : List ℕ} → spans ≡ spansIn (order fs) ++ zeros n → spans ≡ packedSpans fs ++ zeros (length spans - length (packedSpans fs))
+  pub spans-all : (n : ℕ) {spans : List ℕ} → spans ≡ spansIn (order fs) ++ zeros n → spans ≡ packedSpans T cut fs ++ zeros (length spans - length (packedSpans T cut fs))
   spans-all n {spans} e =
-      let f : spans ≡ packedSpans fs ++ zeros n = e ∙ ap (λ l. l ++ zeros n) order-spans in
-      let m : n ≡ length spans - length (packedSpans fs) = omega (arith, ap length f, length-append (packedSpans fs) (zeros n), length-replicate {A = ℕ} n 0) in
-      f ∙ ap (λ n. packedSpans fs ++ zeros n) m
+      let f : spans ≡ packedSpans T cut fs ++ zeros n = e ∙ ap (λ l. l ++ zeros n) order-spans in
+      let m : n ≡ length spans - length (packedSpans T cut fs) = omega (arith, ap length f, length-append (packedSpans T cut fs) (zeros n), length-replicate {A = ℕ} n 0) in
+      f ∙ ap (λ n. packedSpans T cut fs ++ zeros n) m
 
   -- the count in a variable's span
-  span-count : (vs : List ℕ) (v : ℕ) (rest : List ℕ) → v < variableCount → getD (spansIn vs ++ rest) (spanWidth * v + 1) 0 ≡ getD (spanIn vs v) 1 0
+  span-count : (vs : List ℕ) (v : ℕ) (rest : List ℕ) → v < variableCount → getD (spansIn vs ++ rest) (spanWidth * v + 1) 0 ≡ getD (spanIn T cut fs vs v) 1 0
   unfolding spansIn
   span-count vs v rest l =
-      List·getD-append (through variableCount (spanIn vs)) rest 0 (spanWidth * v + 1) (omega (arith, length-through (spanIn vs) spanWidth (span-wide vs) 0 variableCount))
-      ∙ through-at (spanIn vs) spanWidth (span-wide vs) 0 variableCount v 1 l (omega arith)
+      List·getD-append (through variableCount (spanIn T cut fs vs)) rest 0 (spanWidth * v + 1) (omega (arith, length-through (spanIn T cut fs vs) spanWidth (span-wide T cut fs vs) 0 variableCount))
+      ∙ through-at (spanIn T cut fs vs) spanWidth (span-wide T cut fs vs) 0 variableCount v 1 l (omega arith)
 
   -- LAW: it tells whether the variable is packed
   pub span-none : (vs : List ℕ) (v : ℕ) (rest : List ℕ) → v < variableCount → 0 < countOf fs v → getD (spansIn vs ++ rest) (spanWidth * v + 1) 0 ≡ 0

@@ -7,15 +7,15 @@ use Prim.Native.Nat.{ℕ, _+_, _-_, _*_, _≤_, _<_, min}
 use lib.ListN.{length}
 use Rattle.theory.specs.Table.{Table}
 use Rattle.theory.specs.Faces.{Face, facing}
-use Rattle.theory.specs.Match.{inSet, formed, clash, lowestAt, highestAt, lowestOf, highestOf}
+use Rattle.theory.specs.Match.{inSet, formed, clash, lowestFor, highestFor, lowestOf, highestOf}
 use Rattle.theory.specs.Read.{reading, whole}
 use Rattle.theory.specs.Stands.{Noted}
 use Rattle.meaning.specs.Limits.{setWords, variableCount, spanWidth}
 use Rattle.meaning.specs.File.{tableIn}
 use Rattle.meaning.specs.Refusals.{SoundFile}
-use Rattle.meaning.specs.Packing.{through, order, countOf, packedCount, packedSpans, allWords, packedSets}
+use Rattle.meaning.specs.Packing.{through, order, countOf, spanFrom, packedCount, packedSpans, allWords, packedSets}
 use Rattle.meaning.specs.Calls.{zeros, facesIn}
-use Rattle.meaning.specs.Search.{variableWorth, unformed, worst}
+use Rattle.meaning.specs.Search.{unformed, worst}
 use Rattle.meaning.specs.Over.{over}
 use Rattle.positions.specs.Facing.{Covers}
 use Rattle.packing.specs.declared.Search.{Search}
@@ -50,9 +50,9 @@ pub record Room (pattern heading starts sizes ownStarts ownSizes spans sets : Li
 pub record PackedNext (T : Table) (cut : ℕ) (fs : List Face) (v : ℕ) (before after : Search) (spans spans′ sets sets′ : List ℕ) : Type 0 where
   pub packed : after .packed ≡ before .packed + countOf fs v
   pub lacking : after .lacking ≡ cond (formed T cut (facing v fs)) (before .lacking) (min (before .lacking) v)
-  pub lowest : after .lowest ≡ min (before .lowest) (variableWorth (lowestAt T cut) fs v)
-  pub highest : after .highest ≡ min (before .highest) (variableWorth (highestAt T cut) fs v)
-  pub span : spans′ ≡ over spans (spanWidth * v) (before .packed ∷ countOf fs v ∷ [])
+  pub lowest : after .lowest ≡ min (before .lowest) (lowestFor T cut (facing v fs))
+  pub highest : after .highest ≡ min (before .highest) (highestFor T cut (facing v fs))
+  pub span : spans′ ≡ over spans (spanWidth * v) (spanFrom T cut fs (before .packed) v)
   pub words : sets′ ≡ over sets (setWords * before .packed) (allWords (through (countOf fs v) (λ k. inSet T cut (facing v fs) k ∷ [])))
 
 -- All variables are packed, as the pattern has them. These are the spans later, and the sets before and later.
@@ -61,5 +61,5 @@ pub record PackedAll (T : Table) (cut : ℕ) (fs : List Face) (r : Search) (span
   pub lacking : r .lacking ≡ worst (unformed T cut fs) (order fs)
   pub lowest : r .lowest ≡ lowestOf T cut fs
   pub highest : r .highest ≡ highestOf T cut fs
-  pub spans-are : spans ≡ packedSpans fs ++ zeros (length spans - length (packedSpans fs))
+  pub spans-are : spans ≡ packedSpans T cut fs ++ zeros (length spans - length (packedSpans T cut fs))
   pub sets-are : sets′ ≡ over sets 0 (packedSets T cut fs)

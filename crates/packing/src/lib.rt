@@ -1,13 +1,15 @@
 // All variables of the pattern, packed.
 ghost use mathlib.Core.Path.{_≡_};
-ghost use Prim.Native.Nat.{ℕ, _+_, _<_, _≤_};
+ghost use mathlib.Core.List.{[], _∷_};
+ghost use Prim.Native.Nat.{ℕ, _+_, _*_, _<_, _≤_};
 ghost use lib.ListN.{length};
 ghost use Rattle.theory.specs.Least.{least as leastOf};
-ghost use Rattle.meaning.specs.Limits.{variableCount};
+ghost use Rattle.meaning.specs.Limits.{variableCount, spanWidth};
 ghost use Rattle.meaning.specs.File.{tableIn};
 ghost use Rattle.meaning.specs.Packing.{countOf};
 ghost use Rattle.meaning.specs.Calls.{zeros, facesIn};
 ghost use Rattle.meaning.specs.Search.{symbolWorth};
+ghost use Rattle.meaning.specs.Over.{over};
 ghost use Rattle.near.specs.Near.{Fresh};
 ghost use Rattle.positions.specs.Facing.{NearOf};
 ghost use Rattle.packing.specs.Pack.{Packable, PackableNext, Room, PackedNext, PackedAll};
@@ -19,14 +21,29 @@ use terms::kind::Kind;
 use terms::kind::kind_of;
 use variable::pack_variable;
 
+// How many numbers a variable's span has.
+const SPAN: usize = 4;
+
 pub struct Search {
     // how many positions are packed
     pub packed: usize,
     // the least variable without a form, 32 if each has one
     pub lacking: u16,
-    // the least that a symbol or a variable brings, at worst and at best
+    // the least of the symbols' degrees and of the variables' own, at worst and at best
     pub lowest: u16,
     pub highest: u16,
+}
+
+// Notes variable v's span: its first position, how many positions it has, its own lowest and its own highest degree.
+fn put_span(spans: &mut [u16], v: u16, first: u16, positions: u16, lowest: u16, highest: u16)
+    requires { ⌜ spanWidth * (v + 1) ≤ length (now spans) ⌝ }
+    ensures { λ _. ⌜ now (spans .exit) ≡ over (now (spans .entry)) (spanWidth * v) (first ∷ positions ∷ lowest ∷ highest ∷ []) ⌝ }
+{
+    let at = SPAN * v as usize;
+    spans[at] = first;
+    spans[at + 1] = positions;
+    spans[at + 2] = lowest;
+    spans[at + 3] = highest;
 }
 
 // Packs variable v, which stands in the pattern, behind what is packed already, at the cut of the near sets.
@@ -52,9 +69,6 @@ fn pack_next(
 {
     let count = gather(pattern, starts, sizes, v, own_starts, own_sizes);
     let positions = own_sizes[0];
-    let span = 2 * v as usize;
-    spans[span] = search.packed as u16;
-    spans[span + 1] = positions;
     let found = pack_variable(
         table,
         near,
@@ -65,15 +79,26 @@ fn pack_next(
         search.packed,
         sets,
     );
+    let lacking = if found.formed {
+        search.lacking
+    } else {
+        lesser(search.lacking, v)
+    };
+    let lowest = lesser(search.lowest, found.lowest);
+    let highest = lesser(search.highest, found.highest);
+    put_span(
+        spans,
+        v,
+        search.packed as u16,
+        positions,
+        found.lowest,
+        found.highest,
+    );
     Search {
         packed: search.packed + positions as usize,
-        lacking: if found.formed {
-            search.lacking
-        } else {
-            lesser(search.lacking, v)
-        },
-        lowest: lesser(search.lowest, found.lowest),
-        highest: lesser(search.highest, found.highest),
+        lacking,
+        lowest,
+        highest,
     }
 }
 
@@ -112,7 +137,7 @@ pub fn pack(
         match kind_of(symbols, pattern[i]) {
             Kind::Variable(v) => {
                 // a variable that was met before has a span, with one position at least
-                if spans[2 * v as usize + 1] == 0 {
+                if spans[SPAN * v as usize + 1] == 0 {
                     search = pack_next(
                         table,
                         near,

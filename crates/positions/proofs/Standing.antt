@@ -15,12 +15,11 @@ use Rattle.theory.specs.Tree.{Term, node, ∅}
 use Rattle.theory.specs.Table.{Table, Lawful}
 use Rattle.theory.specs.Match.{at, shared, inSet}
 use Rattle.theory.specs.Stands.{StandsAt, Gathered}
-use Rattle.theory.proofs.Lemmas.{most, fewest}
+use Rattle.theory.proofs.Lemmas.{most, fewest, lowest-top}
 use Rattle.theory.proofs.Growing.{shared-more, set-more}
 use Rattle.theory.proofs.Gathered.{at-node, at-past}
 use Rattle.meaning.specs.Limits.{setWords, setRoom}
 use Rattle.meaning.specs.Buffers.{member}
-use Rattle.meaning.proofs.Rated.{lowest-top}
 use Rattle.sets.specs.Words.{NoneBetween}
 use Rattle.sets.proofs.Laws.{none-past}
 use Rattle.near.specs.Near.{inNear}

@@ -91,7 +91,7 @@ module _ (sets : List ℕ) (m n : ℕ) where
       go (yes l) =
           let here : (i : ℕ) → symbolsLine (sets ++ zeros m) (firstPosition spans v + i) ≡ symbolsLine (sets ++ zeros n) (firstPosition spans v + i) = λ i. same-symbols (firstPosition spans v + i) in
           some-lines reply spans (sets ++ zeros m) v l
-          ∙ ap (λ f. variableLine v (positionCount spans v) ++ upward 0 (positionCount spans v - 0) f) (fun-ext here)
+          ∙ ap (λ f. variableLine spans v ++ upward 0 (positionCount spans v - 0) f) (fun-ext here)
           ∙ sym (some-lines reply spans (sets ++ zeros n) v l)
       go (no l) = no-lines reply spans (sets ++ zeros m) v (omega arith) ∙ sym (no-lines reply spans (sets ++ zeros n) v (omega arith))
 
@@ -131,7 +131,7 @@ module _ (table pattern heading : List ℕ) (cut : ℕ) (sets sets′ : List ℕ
           let packed = packedSets (tableIn table) cut fs in
           let reply = Match (lowestOf (tableIn table) cut fs) (highestOf (tableIn table) cut fs) in
           ap textIn (by-answer table pattern heading cut spans sets (ap first same-input ∙ e) q)
-          ∙ same-text packed (length sets - length packed) (length sets′ - length packed) reply (packedSpans fs ++ zeros (length spans - length (packedSpans fs)))
+          ∙ same-text packed (length sets - length packed) (length sets′ - length packed) reply (packedSpans (tableIn table) cut fs ++ zeros (length spans - length (packedSpans (tableIn table) cut fs)))
           ∙ sym (ap textIn (by-answer table pattern heading cut spans sets′ e q))
 
       by : (o : Option Refusal) → first (inputRows table pattern heading cut spans sets′) ≡ o

@@ -9,10 +9,12 @@ use native.Mathlib.Nat.{add-zero}
 use native.Mathlib.Omega.{arith}
 use lib.Dec.{leb}
 use lib.ListN.{length, getD, length-replicate}
+use Rattle.theory.specs.Table.{Table}
 use Rattle.theory.specs.Faces.{Face}
 use Rattle.meaning.specs.Limits.{setWords, variableCount, spanWidth}
+use Rattle.meaning.specs.File.{tableIn}
 use Rattle.meaning.specs.Refusals.{Refusal, refusal, first}
-use Rattle.meaning.specs.Packing.{order, countOf, startIn, among, packedCount, packedSpans}
+use Rattle.meaning.specs.Packing.{order, countOf, startIn, among, spanFrom, packedCount, packedSpans}
 use Rattle.meaning.specs.Calls.{zeros, later, facesIn, matchRows, laterSpans, laterSets}
 use Rattle.meaning.proofs.Packing.{span-at}
 use Rattle.meaning.proofs.Loop.{span-within}
@@ -20,13 +22,16 @@ use Rattle.meaning.proofs.Lengths.{rooms, lengths}
 use Rattle.lines.specs.Lines.{Spanned}
 use Rattle.lines.proofs.Spans.{ending, zero-ending}
 
-packed-ending : (fs : List Face) (rest : List ℕ) (v : ℕ) → v < variableCount → ending (packedSpans fs ++ rest) v ≤ packedCount fs
+packed-ending : (T : Table) (cut : ℕ) (fs : List Face) (rest : List ℕ) (v : ℕ) → v < variableCount → ending (packedSpans T cut fs ++ rest) v ≤ packedCount fs
 unfolding packedCount
-packed-ending fs rest v l =
-    let one = rw add-zero at (span-at fs rest v 0 l (omega arith)) in
-    rw (one, span-at fs rest v 1 l (omega arith)) (go (among v (order fs)) refl)
+packed-ending T cut fs rest v l =
+    let one = rw add-zero at (span-at T cut fs rest v 0 l (omega arith)) in
+    rw (one, span-at T cut fs rest v 1 l (omega arith)) (go (among v (order fs)) refl)
   where
-    go : (b : Bool) → among v (order fs) ≡ b → getD (cond b (startIn (countOf fs) v (order fs) ∷ countOf fs v ∷ []) (0 ∷ 0 ∷ [])) 0 0 + getD (cond b (startIn (countOf fs) v (order fs) ∷ countOf fs v ∷ []) (0 ∷ 0 ∷ [])) 1 0 ≤ packedCount fs
+    here : Bool → List ℕ
+    here b = cond b (spanFrom T cut fs (startIn (countOf fs) v (order fs)) v) (0 ∷ 0 ∷ 0 ∷ 0 ∷ [])
+
+    go : (b : Bool) → among v (order fs) ≡ b → getD (here b) 0 0 + getD (here b) 1 0 ≤ packedCount fs
     go true e = span-within (countOf fs) v (order fs) e
     go false e = omega arith
 
@@ -36,14 +41,14 @@ module _ (table pattern heading : List ℕ) (cut n : ℕ) (sets : List ℕ) wher
   inside v m = go (first (matchRows table pattern heading cut (zeros n) sets)) refl
     where
       filled : List ℕ
-      filled = packedSpans (facesIn table pattern heading)
+      filled = packedSpans (tableIn table) cut (facesIn table pattern heading)
 
       blank : (b : Bool) (k : ℕ) → setWords * ending (cond b (zeros n) (zeros k)) v ≤ length sets
       blank true k = omega (arith, zero-ending n v)
       blank false k = omega (arith, zero-ending k v)
 
       go : (o : Option Refusal) → first (matchRows table pattern heading cut (zeros n) sets) ≡ o → setWords * ending (later o filled (zeros n)) v ≤ length sets
-      go none e = omega (arith, packed-ending (facesIn table pattern heading) (zeros (length (zeros n) - length filled)) v m, rooms table pattern heading cut (zeros n) sets e .1)
+      go none e = omega (arith, packed-ending (tableIn table) cut (facesIn table pattern heading) (zeros (length (zeros n) - length filled)) v m, rooms table pattern heading cut (zeros n) sets e .1)
       go (just (refusal k place)) e = blank (leb k 8) (length (zeros n))
 
   -- LAW: what a match leaves in zeros, and in sets, spans its variables

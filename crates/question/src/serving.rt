@@ -17,7 +17,7 @@ fn serve_in(question: &[u8], sets: &mut [u64], out: &mut [u8], used: usize) -> P
     requires { ⌜ (roomFor (now question) ≤ length (now sets)) × (used ≤ length (now out)) × (2048 ≤ length (now out)) ⌝ }
     ensures { λ r. ⌜ Standing (length (now (out .entry))) r ⌝ }
 {
-    let mut spans = [0u16; 64];
+    let mut spans = [0u16; 128];
     let reply = answer(question, &mut spans, sets);
     put_answer(reply, &spans, sets, out, used)
 }

@@ -89,6 +89,10 @@ pub lowest-le : (n : ℕ) (f : ℕ → ℕ) (k : ℕ) → k < n → lowest n f �
 lowest-le zero f k h = absurd (not-suc-le-zero h)
 lowest-le (suc n) f k h = last-or-below {P = λ k. lowest (suc n) f ≤ f k} n (omega arith) (λ k l. omega (arith, lowest-le n f k l)) k h
 
+pub lowest-top : (n : ℕ) (f : ℕ → ℕ) → lowest n f ≤ 1000
+lowest-top zero f = omega arith
+lowest-top (suc n) f = omega (arith, lowest-top n f)
+
 pub le-lowest : (n : ℕ) (f : ℕ → ℕ) (m : ℕ) → m ≤ 1000 → ((k : ℕ) → k < n → m ≤ f k) → m ≤ lowest n f
 le-lowest zero f m b h = b
 le-lowest (suc n) f m b h = omega (arith, h n (omega arith), le-lowest n f m b (λ k l. h k (omega arith)))

@@ -13,6 +13,7 @@ pub mod Theorems
 pub mod Verdict
 pub mod Corollaries
 pub mod More
+pub mod Own
 pub mod Place
 pub mod Present
 pub mod Taken

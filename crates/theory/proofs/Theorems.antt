@@ -1,18 +1,18 @@
 -- The theorems on a match: when it is answered (1), which its matchers are (2, in `Matchers`), its lowest and highest degree (3),
 -- and what a higher cut leaves (4).
-use mathlib.Core.Path.{_≡_, refl, sym as inv, ap, _∙_, subst}
+use mathlib.Core.Path.{_≡_, sym as inv}
 use mathlib.Core.Logic.{_↔_, _⊎_, inl, inr}
 use mathlib.Core.List.{List, [], _∷_}
-use mathlib.Core.Bool.{Bool, true, false}
-use Prim.Native.Nat.{ℕ, zero, suc, _+_, _≤_, _<_}
+use mathlib.Core.Bool.{true}
+use Prim.Native.Nat.{ℕ, _≤_, _<_}
 use native.Mathlib.Nat.{le-refl, le-trans, le-antisymm, le-of-eq}
 use native.Mathlib.Omega.{arith}
-use Rattle.theory.specs.Tree.{Term, Pattern, fill, stands}
+use Rattle.theory.specs.Tree.{Term, Pattern, fill}
 use Rattle.theory.specs.Table.{Table, Lawful, Over, Overₚ, degree, Matcher}
 use Rattle.theory.specs.Least.{All, least, some, lowest}
 use Rattle.theory.proofs.Lemmas.{least-top, all-of-least, least-of-all, lowest-le, le-lowest}
 use Rattle.theory.specs.Faces.{Face, meets, binds, faces, facing, worth}
-use Rattle.theory.specs.Match.{at, shared, inSet, positions, formed, clash, lowestAt, highestAt, brings, lowestOf, highestOf, Reaches, Matches, IsLowest, IsHighest}
+use Rattle.theory.specs.Match.{at, shared, inSet, positions, formed, lowestAt, highestAt, brings, lowestOf, highestOf, Reaches, Matches, IsLowest, IsHighest}
 use Rattle.theory.proofs.Flat.{degree-top}
 use Rattle.theory.proofs.Draw.{in-set, set-symbol, set-shared}
 use Rattle.theory.proofs.Matchers.{Bound, standing, bound-facing, Clear, none-clear, clear-none, facing-over, worths, worths-clear, worths-reaches, reach-worths, worths-reach}
@@ -23,20 +23,24 @@ module _ (T : Table) (L : Lawful T) (p : Pattern) (h : Term) (op : Overₚ T p) 
   abbrev of : ℕ → List Term
   of v = facing v (faces p h)
 
+  -- a variable's own degree where its positions are rated so
+  abbrev own : (List Term → ℕ → ℕ) → ℕ → ℕ
+  own rate v = lowest (positions (of v)) (rate (of v))
+
   module _ (c : ℕ) (pos : 0 < c) (cut : c ≤ 1000) where
     -- what a matcher gives: at every node the cut is reached, and each variable's term reaches it with all that faces it
-    matcher-reaches : (σ : ℕ → Term) → Matcher T c p h σ → (v : ℕ) → Reaches T c (of v) (σ v)
+    pub matcher-reaches : (σ : ℕ → Term) → Matcher T c p h σ → (v : ℕ) → Reaches T c (of v) (σ v)
     matcher-reaches σ m = worths-reaches T σ c (faces p h) (reach-worths T L p h op oh σ c (m .reaches))
 
     -- a form for each variable
-    forms : (val : List Term → ℕ → ℕ) → ((ts : List Term) (k : ℕ) → some (T .size) (inSet T c ts k) ≡ true → Symbol T L c pos cut ts k (val ts k))
+    pub forms : (val : List Term → ℕ → ℕ) → ((ts : List Term) (k : ℕ) → some (T .size) (inSet T c ts k) ≡ true → Symbol T L c pos cut ts k (val ts k))
         → Matches T c p h → (v : ℕ) → Form T L c pos cut (of v) (val (of v))
     forms val sel a v =
         some-form T L c pos cut val sel h oh (of v) (facing-over T p h oh v)
         (bound-facing (λ v. formed T c (of v) ≡ true) v (faces p h) (standing (λ v. formed T c (of v) ≡ true) p h (a .forms)))
 
     -- and so a matcher
-    form-matcher : (val : List Term → ℕ → ℕ) → Matches T c p h → (f : (v : ℕ) → Form T L c pos cut (of v) (val (of v))) → Matcher T c p h (λ v. f v .term)
+    pub form-matcher : (val : List Term → ℕ → ℕ) → Matches T c p h → (f : (v : ℕ) → Form T L c pos cut (of v) (val (of v))) → Matcher T c p h (λ v. f v .term)
     form-matcher val a f =
         record {
           over = λ v s. f v .over;
@@ -65,19 +69,19 @@ module _ (T : Table) (L : Lawful T) (p : Pattern) (h : Term) (op : Overₚ T p) 
 
     -- every node brings m exactly if no symbol clashes at m and every position of every variable is rated at least m
     rated : (rate : List Term → ℕ → ℕ) (m : ℕ) → m ≤ 1000 → (Q : ℕ → Type 0) → ((v : ℕ) → Q v → (k : ℕ) → k < positions (of v) → m ≤ rate (of v) k)
-        → (fs : List Face) → All (Clear T m) fs → All (Bound Q) fs → All (λ x. m ≤ brings T rate (faces p h) x) fs
+        → (fs : List Face) → All (Clear T m) fs → All (Bound Q) fs → All (λ x. m ≤ brings T (own rate) x) fs
     rated rate m b Q q [] cl bo = tt
     rated rate m b Q q (meets f g ∷ fs) cl bo = (cl .0, rated rate m b Q q fs (cl .1) (bo .1))
     rated rate m b Q q (binds v t ∷ fs) cl bo = (le-lowest (positions (of v)) (rate (of v)) m b (q v (bo .0)), rated rate m b Q q fs (cl .1) (bo .1))
 
-    rated-clear : (rate : List Term → ℕ → ℕ) (m : ℕ) (fs : List Face) → All (λ x. m ≤ brings T rate (faces p h) x) fs → All (Clear T m) fs
+    rated-clear : (rate : List Term → ℕ → ℕ) (m : ℕ) (fs : List Face) → All (λ x. m ≤ brings T (own rate) x) fs → All (Clear T m) fs
     rated-clear rate m [] a = tt
     rated-clear rate m (meets f g ∷ fs) a = (a .0, rated-clear rate m fs (a .1))
     rated-clear rate m (binds v t ∷ fs) a = (tt, rated-clear rate m fs (a .1))
 
     -- with what holds of the variable besides
-    rated-bound : (rate : List Term → ℕ → ℕ) (m : ℕ) (Q : ℕ → Type 0) (fs : List Face) → All (λ x. m ≤ brings T rate (faces p h) x) fs → All (Bound Q) fs
-        → All (Bound (λ v. (m ≤ lowest (positions (of v)) (rate (of v))) × Q v)) fs
+    rated-bound : (rate : List Term → ℕ → ℕ) (m : ℕ) (Q : ℕ → Type 0) (fs : List Face) → All (λ x. m ≤ brings T (own rate) x) fs → All (Bound Q) fs
+        → All (Bound (λ v. (m ≤ own rate v) × Q v)) fs
     rated-bound rate m Q [] a b = tt
     rated-bound rate m Q (meets f g ∷ fs) a b = (tt, rated-bound rate m Q fs (a .1) (b .1))
     rated-bound rate m Q (binds v t ∷ fs) a b = ((a .0, b .0), rated-bound rate m Q fs (a .1) (b .1))
@@ -85,33 +89,33 @@ module _ (T : Table) (L : Lawful T) (p : Pattern) (h : Term) (op : Overₚ T p) 
     -- a matcher whose terms share at every position at least what that position is rated has at least the degree so rated
     above : (rate : List Term → ℕ → ℕ) (σ : ℕ → Term) (m : Matcher T c p h σ)
         → ((v : ℕ) → Over T (σ v) → (k : ℕ) → k < positions (of v) → rate (of v) k ≤ shared T (of v) k (at T (σ v) k))
-        → least (brings T rate (faces p h)) (faces p h) ≤ degree T (fill σ p) h
+        → least (brings T (own rate)) (faces p h) ≤ degree T (fill σ p) h
     above rate σ m q = worths-reach T L p h op oh σ n top (worths T σ n (faces p h) (rated-clear rate n (faces p h) a) each)
       where
         n : ℕ
-        n = least (brings T rate (faces p h)) (faces p h)
+        n = least (brings T (own rate)) (faces p h)
 
         top : n ≤ 1000
-        top = least-top (brings T rate (faces p h)) (faces p h)
+        top = least-top (brings T (own rate)) (faces p h)
 
-        a : All (λ x. n ≤ brings T rate (faces p h) x) (faces p h)
-        a = all-of-least (brings T rate (faces p h)) n (faces p h) (le-refl n)
+        a : All (λ x. n ≤ brings T (own rate) x) (faces p h)
+        a = all-of-least (brings T (own rate)) n (faces p h) (le-refl n)
 
-        go : (v : ℕ) → (of v ≡ []) ⊎ ((n ≤ lowest (positions (of v)) (rate (of v))) × Over T (σ v)) → Reaches T n (of v) (σ v)
+        go : (v : ℕ) → (of v ≡ []) ⊎ ((n ≤ own rate v) × Over T (σ v)) → Reaches T n (of v) (σ v)
         go v (inl e) = rw e tt
         go v (inr r) =
             reach-more T L c pos cut (σ v) (r .1) (of v) (facing-over T p h oh v) (matcher-reaches σ m v) n top
             (λ k l. omega (arith, r .0, lowest-le (positions (of v)) (rate (of v)) k l, q v (r .1) k l))
 
         each : (v : ℕ) → Reaches T n (of v) (σ v)
-        each v = go v (bound-facing (λ v. (n ≤ lowest (positions (of v)) (rate (of v))) × Over T (σ v)) v (faces p h) (rated-bound rate n (λ v. Over T (σ v)) (faces p h) a (over-bound σ m)))
+        each v = go v (bound-facing (λ v. (n ≤ own rate v) × Over T (σ v)) v (faces p h) (rated-bound rate n (λ v. Over T (σ v)) (faces p h) a (over-bound σ m)))
 
     -- and one whose terms share at most that has at most that degree
     beneath : (rate : List Term → ℕ → ℕ) (σ : ℕ → Term) (m : Matcher T c p h σ)
         → ((v : ℕ) → Over T (σ v) → (k : ℕ) → k < positions (of v) → shared T (of v) k (at T (σ v) k) ≤ rate (of v) k)
-        → degree T (fill σ p) h ≤ least (brings T rate (faces p h)) (faces p h)
+        → degree T (fill σ p) h ≤ least (brings T (own rate)) (faces p h)
     beneath rate σ m q =
-        least-of-all (brings T rate (faces p h)) n (faces p h) top
+        least-of-all (brings T (own rate)) n (faces p h) top
         (rated rate n top (λ v. Over T (σ v)) at-each (faces p h) (worths-clear T σ n (faces p h) a) (over-bound σ m))
       where
         n : ℕ

@@ -65,18 +65,24 @@ module _ (T : Table) where
   abbrev pub highestAt : ℕ → List Term → ℕ → ℕ
   highestAt c ts k = highest (T .size) (λ s. cond (inSet c ts k s) (shared ts k s) 0)
 
-  -- What a node brings where a variable's position is rated so: a symbol its degree with the symbol that faces it, a variable the
-  -- least over its positions.
-  abbrev pub brings : (List Term → ℕ → ℕ) → List Face → Face → ℕ
-  brings rate fs (meets f g) = T .deg f g
-  brings rate fs (binds v t) = lowest (positions (facing v fs)) (rate (facing v fs))
+  -- The own lowest and the own highest degree of a variable that the terms ts face: the least over its positions, at worst and at best.
+  abbrev pub lowestFor : ℕ → List Term → ℕ
+  lowestFor c ts = lowest (positions ts) (lowestAt c ts)
 
-  -- The lowest and the highest degree of a match: the least that a node brings, at worst and at best.
+  abbrev pub highestFor : ℕ → List Term → ℕ
+  highestFor c ts = lowest (positions ts) (highestAt c ts)
+
+  -- What a node brings to the degree of a match: a symbol its degree with the symbol that faces it, a variable its own degree.
+  abbrev pub brings : (ℕ → ℕ) → Face → ℕ
+  brings own (meets f g) = T .deg f g
+  brings own (binds v t) = own v
+
+  -- The lowest and the highest degree of a match: the least of the facing symbols' degrees and of the variables' own, at worst and at best.
   abbrev pub lowestOf : ℕ → List Face → ℕ
-  lowestOf c fs = least (brings (lowestAt c) fs) fs
+  lowestOf c fs = least (brings (λ v. lowestFor c (facing v fs))) fs
 
   abbrev pub highestOf : ℕ → List Face → ℕ
-  highestOf c fs = least (brings (highestAt c) fs) fs
+  highestOf c fs = least (brings (λ v. highestFor c (facing v fs))) fs
 
   -- A clash's place i: the node there is a symbol whose degree with the symbol that faces it is below the cut, and no node before it is.
   pub record ClashAt (c : ℕ) (fs : List Face) (i : ℕ) : Type 0 where
@@ -116,3 +122,17 @@ module _ (T : Table) where
   pub record IsHighest (c : ℕ) (p : Pattern) (h : Term) (n : ℕ) : Type 0 where
     pub reached : (σ : ℕ → Term) × Matcher T c p h σ × (degree T (fill σ p) h ≡ n)
     pub bounds : (σ : ℕ → Term) → Matcher T c p h σ → degree T (fill σ p) h ≤ n
+
+  -- The degree of a term with all of the terms ts: the least that it has with one of them.
+  abbrev pub withAll : List Term → Term → ℕ
+  withAll ts u = least (λ t. degree T u t) ts
+
+  -- n is variable v's own lowest, own highest degree: what one matcher gives to v has it with all the subterms that face v, and what any matcher gives
+  -- to v has at least, at most that.
+  pub record IsLowestFor (c : ℕ) (p : Pattern) (h : Term) (v n : ℕ) : Type 0 where
+    pub reached : (σ : ℕ → Term) × Matcher T c p h σ × (withAll (facing v (faces p h)) (σ v) ≡ n)
+    pub bounds : (σ : ℕ → Term) → Matcher T c p h σ → n ≤ withAll (facing v (faces p h)) (σ v)
+
+  pub record IsHighestFor (c : ℕ) (p : Pattern) (h : Term) (v n : ℕ) : Type 0 where
+    pub reached : (σ : ℕ → Term) × Matcher T c p h σ × (withAll (facing v (faces p h)) (σ v) ≡ n)
+    pub bounds : (σ : ℕ → Term) → Matcher T c p h σ → withAll (facing v (faces p h)) (σ v) ≤ n

@@ -5,7 +5,7 @@ use super::facing::{Facing, Walk};
 use super::near::{for_members, gather, intersect, Near};
 use super::refuse;
 use super::table::{Table, TOP};
-use crate::{Answer, Degrees, MAX_NODES, WORDS};
+use crate::{Answer, Degrees, MAX_NODES, SPAN, WORDS};
 
 pub struct Question<'a> {
     pub table: &'a Table<'a>,
@@ -16,6 +16,15 @@ pub struct Question<'a> {
 
 /// Up to so many nodes that face variables which stand more than once, degrees are searched for.
 const FEW: usize = 32;
+
+/// Notes a variable's own degrees in its span; they are among those that the pattern's are the least of.
+fn own_degrees(variable: u8, spans: &mut [u16], degrees: &mut Degrees, lowest: u16, highest: u16) {
+    let at = SPAN * usize::from(variable);
+    spans[at + 2] = lowest;
+    spans[at + 3] = highest;
+    degrees.lowest = degrees.lowest.min(lowest);
+    degrees.highest = degrees.highest.min(highest);
+}
 
 impl<'a> Question<'a> {
     pub fn answer(&self, spans: &mut [u16], sets: &mut [u64]) -> Answer<Degrees> {
@@ -58,8 +67,8 @@ impl<'a> Question<'a> {
                 shared += count * part.len();
             } else {
                 // The subterm that faces it is itself a form, and reaches the top.
-                let least = part.iter().map(|&symbol| near[usize::from(symbol)].least).min();
-                degrees.lowest = degrees.lowest.min(least.unwrap_or(TOP));
+                let least = part.iter().map(|&symbol| near[usize::from(symbol)].least).min().unwrap_or(TOP);
+                own_degrees(first.variable, spans, &mut degrees, least, TOP);
             }
         }
         match shared {
@@ -90,8 +99,8 @@ impl<'a> Question<'a> {
                 }
             }
             let variable = usize::from(first.variable);
-            spans[2 * variable] = packed as u16;
-            spans[2 * variable + 1] = part.len() as u16;
+            spans[SPAN * variable] = packed as u16;
+            spans[SPAN * variable + 1] = part.len() as u16;
             packed += part.len();
         }
         if formless == 0 {
@@ -103,10 +112,11 @@ impl<'a> Question<'a> {
 
     /// The degrees of the variables that stand more than once: a symbol's degree at a position is its least with those that face it
     /// there. The degrees that are asked for all reach the cut.
-    fn share(&self, walk: &Walk, spans: &[u16], sets: &[u64], degrees: &mut Degrees, degree: impl Fn(u16, u16) -> u16) {
+    fn share(&self, walk: &Walk, spans: &mut [u16], sets: &[u64], degrees: &mut Degrees, degree: impl Fn(u16, u16) -> u16) {
         for first in walk.firsts().filter(|first| walk.chain(first).count > 1) {
-            let packed = usize::from(spans[2 * usize::from(first.variable)]);
+            let packed = usize::from(spans[SPAN * usize::from(first.variable)]);
             let part = walk.part(first, self.heading);
+            let (mut lowest, mut highest) = (TOP, TOP);
             for (position, (words, &symbol)) in sets[WORDS * packed..].chunks_exact(WORDS).zip(part).enumerate() {
                 let mut best = 0;
                 for_members(words, |member| {
@@ -114,17 +124,18 @@ impl<'a> Question<'a> {
                     for other in walk.others(first) {
                         least = least.min(degree(self.heading[usize::from(other.start) + position], member));
                     }
-                    degrees.lowest = degrees.lowest.min(least);
+                    lowest = lowest.min(least);
                     best = best.max(least);
                 });
-                degrees.highest = degrees.highest.min(best);
+                highest = highest.min(best);
             }
+            own_degrees(first.variable, spans, degrees, lowest, highest);
         }
     }
 
     /// The same with a matrix of degrees, which pays for itself where many are asked for.
     #[inline(never)]
-    fn share_many<const SYMBOLS: usize>(&self, walk: &Walk, spans: &[u16], sets: &[u64], degrees: &mut Degrees) {
+    fn share_many<const SYMBOLS: usize>(&self, walk: &Walk, spans: &mut [u16], sets: &[u64], degrees: &mut Degrees) {
         let mut matrix = [[0u16; SYMBOLS]; SYMBOLS];
         for (symbol, row) in matrix.iter_mut().enumerate() {
             row[symbol] = TOP;

@@ -129,7 +129,7 @@ impl Asker {
 
     /// Room that is just enough.
     pub fn match_in_room(&mut self, pattern: &[u16], heading: &[u16], cut: u16) -> usize {
-        self.match_heading(pattern, heading, cut, 64, 4 * heading.len())
+        self.match_heading(pattern, heading, cut, 128, 4 * heading.len())
     }
 }
 

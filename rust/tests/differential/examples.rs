@@ -9,11 +9,11 @@ type Matched = Result<(u16, u16, Members), (u16, u16)>;
 type Members = Vec<Vec<u16>>;
 
 fn match_by(call: MatchHeading, cut: u16, pattern: &[u16], heading: &[u16]) -> Matched {
-    let (mut spans, mut sets) = ([0; 64], vec![0; 4 * heading.len()]);
+    let (mut spans, mut sets) = ([0; 128], vec![0; 4 * heading.len()]);
     match call(&Drawn::t().file(), pattern, heading, cut, &mut spans, &mut sets) {
         Err(refusal) => Err((refusal.number, refusal.place)),
         Ok(degrees) => {
-            let packed: u16 = spans.iter().skip(1).step_by(2).sum();
+            let packed: u16 = spans.iter().skip(1).step_by(4).sum();
             let members =
                 |set: &[u64]| (0..256).filter(|k| set[k / 64] >> (k % 64) & 1 == 1).map(|k| k as u16).collect();
             let sets = sets.chunks(4).take(usize::from(packed)).map(members).collect();
@@ -88,4 +88,22 @@ fn of_matches() {
     assert_eq!(matched(600, &pattern, &[X]), Err((7, 0)));
     assert_eq!(matched(0, &pattern, &heading), Err((5, 0)));
     assert_eq!(matched(1001, &pattern, &heading), Err((5, 0)));
+}
+
+#[test]
+fn of_own_degrees() {
+    let t = Drawn::t().file();
+    let calls: [MatchHeading; 2] = [proved::match_heading, plain::match_heading];
+    for match_heading in calls {
+        let spans_of = |cut, pattern: &[u16], heading: &[u16]| {
+            let (mut spans, mut sets) = ([9999; 128], vec![9999; 4 * heading.len()]);
+            assert!(match_heading(&t, pattern, heading, cut, &mut spans, &mut sets).is_ok());
+            spans
+        };
+        assert_eq!(spans_of(600, &[0, X, X], &[0, 1, 5, 2, 6])[..8], [0, 2, 600, 700, 0, 0, 0, 0]);
+        assert_eq!(spans_of(500, &[1, X], &[2, 6])[..4], [0, 1, 500, 1000]);
+        assert_eq!(spans_of(600, &[0, 1, X, X + 1], &[0, 3, 6, 5])[..8], [0, 1, 800, 1000, 1, 1, 700, 1000]);
+        let spans = spans_of(500, &[0, X, 0, X, X + 31], &[0, 5, 0, 6, 7]);
+        assert_eq!((&spans[..4], &spans[124..]), (&[0, 1, 500, 700][..], &[1, 1, 700, 1000][..]));
+    }
 }

@@ -70,7 +70,7 @@ fn degrees(file: &[u8], pattern: &[u16], heading: &[u16], cut: u16) {
     let plain = plain::heading_degree(file, heading, pattern);
     assert_eq!((ours, degree), (answer(&plain), plain.unwrap_or(BEFORE)));
 
-    let (mut spans, mut sets) = (vec![0; 64], vec![0; 4 * heading.len()]);
+    let (mut spans, mut sets) = (vec![0; 128], vec![0; 4 * heading.len()]);
     let (mut lowest, mut highest) = (BEFORE, BEFORE);
     let ours = unsafe {
         ffi::shx_match(

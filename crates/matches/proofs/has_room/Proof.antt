@@ -14,7 +14,7 @@ use Rattle.matches.proofs.has_room.Tie as tie
 returns : tie.Need-returns
 unfolding row8
 returns c =
-    rw (lt-ltb (length (now (c .before .args .spans))) 64 (omega arith))
+    rw (lt-ltb (length (now (c .before .args .spans))) 128 (omega arith))
 
 mul-result : tie.Need-mul-result
 mul-result c = search needs
@@ -23,7 +23,7 @@ returns-2 : tie.Need-returns-2
 unfolding row8
 returns-2 c =
     let a = c .before .args in
-    rw (le-ltb (length (now (a .spans))) 64 (omega arith)) (ap (λ b. row 8 (at0 b)) (below-not (length (now (a .sets))) (4 * length (now (a .heading)))))
+    rw (le-ltb (length (now (a .spans))) 128 (omega arith)) (ap (λ b. row 8 (at0 b)) (below-not (length (now (a .sets))) (4 * length (now (a .heading)))))
 
 pub has-room-spec : {M : Type 1} → statement M
 has-room-spec = tie.close (tie.spec returns mul-result returns-2)

@@ -30,11 +30,8 @@ after-reply-requires c κs = search needs
 enum-known-cursor : tie.Need-enum-known-cursor
 enum-known-cursor c = search needs
 
-position-count-requires : tie.Need-position-count-requires
-position-count-requires c κs = (c .before .before .before .before .before .before .before .pre .0 .spans-there, there (c .before .before) .0)
-
 put-variable-requires : tie.Need-put-variable-requires
-put-variable-requires c κs = search needs
+put-variable-requires c κs = let s = c .before .before .before .before .before .before .before in (s .pre .2, s .pre .0 .spans-there, there (c .before .before) .0)
 
 enum-known-cursor-2 : tie.Need-enum-known-cursor-2
 enum-known-cursor-2 c = search needs
@@ -78,10 +75,9 @@ same-length-2 c = search needs
 
 returns-2 : tie.Need-returns-2
 returns-2 c =
-    let a = c .before .before .before .before .before .before .before .before .before .before .before .args in
-    let cursor = c .before .before .before .before .before .before .cursor .given in
-    let line = rw (c .before .before .before .position-count .ensures) at (c .before .before .put-variable .ensures) in
-    text-variable (a .reply) (a .spans .now) (a .sets .now) (cursor .0 .0) (cursor .1) line refl
+    let a = c .before .before .before .before .before .before .before .before .before .before .args in
+    let cursor = c .before .before .before .before .before .cursor .given in
+    text-variable (a .reply) (a .spans .now) (a .sets .now) (cursor .0 .0) (cursor .1) (c .before .before .put-variable .ensures) refl
 
 same-length-3 : tie.Need-same-length-3
 same-length-3 c = search needs
@@ -104,7 +100,6 @@ next-line-spec =
     put-reply-requires
     after-reply-requires
     enum-known-cursor
-    position-count-requires
     put-variable-requires
     enum-known-cursor-2
     first-position-requires

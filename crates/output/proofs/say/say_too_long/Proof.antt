@@ -24,7 +24,7 @@ put-answer-requires : tie.Need-put-answer-requires
 put-answer-requires c κs =
     let title = c .before .before .before .before .before .before .before .before .say-title in
     let room = subst (Roomy _ 2018) (c .before .before .before .before .at .given .1) (title .ensures) in
-    (zeros-spanned 64 _ (omega arith), omega (arith, room, title .kept .1 .0), omega (arith, title .kept .1 .0))
+    (zeros-spanned 128 _ (omega arith), omega (arith, room, title .kept .1 .0), omega (arith, title .kept .1 .0))
 
 enum-told : tie.Need-enum-told
 enum-told c = search needs
