@@ -21,8 +21,7 @@ use Rattle.meaning.proofs.Parts.{terms, subterms, nearest}
 use Rattle.meaning.proofs.Matched.{Ready, ready, demand2}
 use Rattle.meaning.proofs.Reasons.{reasons}
 use Rattle.meaning.proofs.Sentences.{sentences}
-use Rattle.meaning.proofs.Own.{variable-degrees}
-use Rattle.meaning.proofs.Spans.{answered-none, packed-in-order}
+use Rattle.meaning.proofs.Spans.{answered-none, packed-in-order, variable-degrees}
 use Rattle.meaning.proofs.NoOverlap.{no-overlap}
 use Rattle.meaning.proofs.TopCut.{matchers-make-it, same-heading, at-top-cut}
 use Rattle.demands.specs.Further.{MatchSays, Further}
@@ -47,7 +46,7 @@ says table pattern heading cut spans sets a p wp h wh =
     (record {
       reasons = reasons table pattern heading cut spans sets a;
       sets-and-degrees = sentences table pattern heading cut spans sets a;
-      own-degrees = variable-degrees table pattern heading cut spans sets a;
+      own-degrees = variable-degrees table pattern heading cut spans sets;
       packed = λ d e. packed-in-order table pattern heading cut spans sets (answered-none table pattern heading cut spans sets d e);
       no-overlap = no-overlap table pattern heading cut spans sets a;
     })

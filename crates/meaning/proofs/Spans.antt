@@ -1,6 +1,6 @@
--- Where an answered match packs its variables, as one reads it in the spans: the numbers of a variable are what was packed for it, zeros for one
--- that does not stand in the pattern; and where nothing clashes the order of packing is that of the pattern.
-use mathlib.Core.Path.{_≡_, refl, sym as inv, ap, ap₂, _∙_}
+-- What an answered match says of its variables in the spans: the numbers of a variable are what was packed for it, zeros for one that does not stand in
+-- the pattern; where nothing clashes the order of packing is that of the pattern, and the last two numbers are the variable's own degrees.
+use mathlib.Core.Path.{_≡_, refl, sym as inv, ap, ap₂, _∙_, subst}
 use mathlib.Core.List.{List, [], _∷_}
 use mathlib.Core.Bool.{Bool, true, false, cond}
 use mathlib.Core.Option.{none}
@@ -13,7 +13,7 @@ use Rattle.theory.specs.Tree.{Term, Pattern, stands}
 use Rattle.theory.specs.Table.{Table, Overₚ}
 use Rattle.theory.specs.Least.{All}
 use Rattle.theory.specs.Faces.{Face, faces, facing}
-use Rattle.theory.specs.Match.{lowestFor, highestFor}
+use Rattle.theory.specs.Match.{lowestFor, highestFor, lowestOf, highestOf, Matches}
 use Rattle.theory.specs.Decode.{patternOf, termOf}
 use Rattle.theory.proofs.Decoding.{fine-over}
 use Rattle.theory.proofs.Matchers.{Clear, none-clear}
@@ -23,14 +23,15 @@ use Rattle.meaning.specs.Limits.{variableCount, spanWidth}
 use Rattle.meaning.specs.File.{tableIn}
 use Rattle.meaning.specs.Refusals.{first}
 use Rattle.meaning.specs.Packing.{firsts, order, countOf, startIn, among, spanIn, packedSpans}
-use Rattle.meaning.specs.Calls.{gives, Degrees, zeros, inputRows, searchRows, matchRows, matched, laterSpans, matchCall}
+use Rattle.meaning.specs.Calls.{gives, Degrees, degrees, zeros, facesIn, inputRows, searchRows, matchRows, matched, laterSpans, matchCall}
 use Rattle.meaning.specs.Buffers.{firstPosition, positionCount, ownLowest, ownHighest}
 use Rattle.meaning.specs.Demands.{Accepted}
-use Rattle.meaning.specs.Matching.{standing, PackedInOrder}
+use Rattle.meaning.specs.Matching.{standing, VariableDegrees, PackedInOrder}
 use Rattle.meaning.proofs.First.{append-none, unless-gives}
 use Rattle.meaning.proofs.Packing.{order-among, span-at}
 use Rattle.meaning.proofs.Standing.{absent-order, packed-stands, variables-standing}
 use Rattle.meaning.proofs.Matched.{Ready, ready, given-none, match-ends, spans-are}
+use Rattle.meaning.proofs.Own.{degrees-read}
 
 -- ---- starts by counts that agree
 
@@ -92,12 +93,12 @@ module _ (table pattern heading : List ℕ) (cut : ℕ) (spans sets : List ℕ) 
         let l = packed-small v m in
         (first-read v l ∙ rw m, number-read v 1 l (omega arith) ∙ rw m)
 
-    pub own-read : (v : ℕ) → among v (order fs) ≡ true → (ownLowest left v ≡ lowestFor T cut (facing v fs)) × (ownHighest left v ≡ highestFor T cut (facing v fs))
+    own-read : (v : ℕ) → among v (order fs) ≡ true → (ownLowest left v ≡ lowestFor T cut (facing v fs)) × (ownHighest left v ≡ highestFor T cut (facing v fs))
     own-read v m =
         let l = packed-small v m in
         (number-read v 2 l (omega arith) ∙ rw m, number-read v 3 l (omega arith) ∙ rw m)
 
-    pub absent : (v : ℕ) → v < variableCount → stands v p ≡ false → (firstPosition left v ≡ 0) × (positionCount left v ≡ 0) × (ownLowest left v ≡ 0) × (ownHighest left v ≡ 0)
+    absent : (v : ℕ) → v < variableCount → stands v p ≡ false → (firstPosition left v ≡ 0) × (positionCount left v ≡ 0) × (ownLowest left v ≡ 0) × (ownHighest left v ≡ 0)
     absent v l s =
         let m = absent-order v p h s in
         (first-read v l ∙ rw m, number-read v 1 l (omega arith) ∙ rw m, number-read v 2 l (omega arith) ∙ rw m, number-read v 3 l (omega arith) ∙ rw m)
@@ -105,8 +106,14 @@ module _ (table pattern heading : List ℕ) (cut : ℕ) (spans sets : List ℕ) 
     op : Overₚ T p
     op = fine-over T true p (r .pattern-is .holds .fine)
 
+    found : Matches T cut p h
+    found = given-none _ _ _ (match-ends table pattern heading cut spans sets accepted r) e .0
+
     clear : All (Clear T cut) fs
-    clear = none-clear T cut fs (given-none _ _ _ (match-ends table pattern heading cut spans sets accepted r) e .0 .clear)
+    clear = none-clear T cut fs (found .clear)
+
+    stands-packed : (v : ℕ) → stands v p ≡ true → among v (order fs) ≡ true
+    stands-packed v s = order-among v fs (present T (r .lawful) cut (r .positive) v p h op (r .heading-is .holds .over) clear s)
 
     -- LAW: the variable that the pattern has first is packed first, and so on
     pub in-order : order fs ≡ firsts (standing p)
@@ -114,10 +121,24 @@ module _ (table pattern heading : List ℕ) (cut : ℕ) (spans sets : List ℕ) 
 
     starts : (v : ℕ) → stands v p ≡ true → firstPosition left v ≡ startIn (positionCount left) v (firsts (standing p))
     starts v s =
-        packed-read v (order-among v fs (present T (r .lawful) cut (r .positive) v p h op (r .heading-is .holds .over) clear s)) .0
+        packed-read v (stands-packed v s) .0
         ∙ start-counts (countOf fs) (positionCount left) v (order fs) (λ w m. inv (packed-read w m .1))
         ∙ ap (startIn (positionCount left) v) in-order
 
     -- THEOREM: where an answered match packs its variables
     pub packed-in-order : PackedInOrder p (matchCall table pattern heading cut spans sets)
     packed-in-order = record { absent = absent; starts = starts }
+
+    -- its degrees are the least of what its nodes bring, and those of each variable are as one reads them
+    own-degrees : VariableDegrees T cut p h (matchCall table pattern heading cut spans sets) (lowestOf T cut fs) (highestOf T cut fs)
+    own-degrees = degrees-read T (r .lawful) p h op (r .heading-is .holds .over) cut (r .positive) (r .cut-top) found _ (λ v s. own-read v (stands-packed v s))
+
+  -- THEOREM: the degrees of each variable of an answered match
+  pub variable-degrees : (low high : ℕ) → matched table pattern heading cut spans sets ≡ gives (degrees low high)
+      → VariableDegrees T cut p h (matchCall table pattern heading cut spans sets) low high
+  unfolding matched facesIn
+  variable-degrees low high g =
+      let u = unless-gives (first (matchRows table pattern heading cut spans sets)) (degrees (lowestOf T cut fs) (highestOf T cut fs)) (degrees low high) g in
+      let same : (lowestOf T cut fs ≡ low) × (highestOf T cut fs ≡ high) = let q = u .1 in (cc, cc) in
+      subst (λ n. VariableDegrees T cut p h (matchCall table pattern heading cut spans sets) low n) (same .1)
+      (subst (λ n. VariableDegrees T cut p h (matchCall table pattern heading cut spans sets) n (highestOf T cut fs)) (same .0) (own-degrees (u .0)))
