@@ -176,6 +176,32 @@ def check(table, cut, pattern, heading):
     return ['match']
 
 
+def richer(rng, table):
+    """The table with some pairs added and some degrees raised."""
+    size = range(len(table.arities))
+    listed = {(a, b): degree for a, b, degree in table.pairs}
+    pairs = [(a, b, rng.choice([d for d in (1, 300, 500, 600, 700, 999) if d >= listed.get((a, b), 1)])) for a in size for b in size
+             if a < b and table.arities[a] == table.arities[b] and ((a, b) in listed or rng.random() < 0.5)]
+    return ref.Table(table.arities, pairs)
+
+
+def check_richer(rng, table, cut, pattern, heading):
+    """What became of the matchers under the table under a richer one, as a list of one; none if there is too much to try."""
+    more = richer(rng, table)
+    faced = [len(ref.preorder(h)) for p, h in facing(pattern, heading) if p[0] == ref.VARIABLE and h is not None]
+    terms = ground_terms(table, 1 + max(faced, default=0))
+    if len(terms) ** len(variables(pattern)) > 4000:
+        return []
+    before, after = list(matchers(table, cut, pattern, heading, terms)), list(matchers(more, cut, pattern, heading, terms))
+    for given, degree in before:
+        assert any(given == other and degree <= then for other, then in after), (table.pairs, more.pairs, cut, pattern, heading)
+    if not before:
+        return ['gained a match' if after else 'none in either']
+    degrees, then = [degree for _, degree in before], [degree for _, degree in after]
+    assert max(then) >= max(degrees)
+    return ['lost nothing but of the lowest' if min(then) < min(degrees) else 'lost nothing']
+
+
 def check_faults(arities, longest):
     """Holds the places of 6 and 7 against all terms: a list is at fault where no term goes on as it does, or where it ends too early."""
     table, data, tried = ref.Table(arities, []), ref.table_bytes(arities, []), 0
@@ -203,6 +229,10 @@ def main():
     while sum(told.values()) < wanted:
         told.update(check(*random_case(rng)))
     print('%d cases, each held against all substitutions: %s' % (wanted, ', '.join('%d %s' % (told[k], k) for k in sorted(told))))
+    twice = Counter()
+    while sum(twice.values()) < wanted // 3:
+        twice.update(check_richer(rng, *random_case(rng)))
+    print('%d cases under two tables, the second richer: %s' % (sum(twice.values()), '; '.join('%d %s' % (twice[k], k) for k in sorted(twice))))
     tried = sum(check_faults(arities, longest) for arities, longest in (([0], 4), ([1, 0], 4), ([2, 0], 4), ([0, 2, 1], 3), ([0, 3], 3)))
     print('%d lists, each held against all terms' % tried)
 

@@ -309,6 +309,51 @@ def gathered(cases):
         cases.match(table, [X], heading, cut, 'match %d 1000' % cut)
 
 
+def loses_nothing(before, after, pattern, heading, cut):
+    """Holds the two answers of the reference against each other, the second over a richer table."""
+    try:
+        first = reference.match(before, pattern, heading, cut)
+    except reference.Refused:
+        return
+    then = reference.match(after, pattern, heading, cut)
+    assert then.highest >= first.highest and list(then.sets) == list(first.sets)
+    for v, positions in first.sets.items():
+        assert then.own[v][1] >= first.own[v][1] and len(then.sets[v]) == len(positions)
+        assert all(set(old) <= set(new) for old, new in zip(positions, then.sets[v]))
+
+
+def richer(cases):
+    """One question of two tables: with pairs added or degrees raised, nothing is lost that was found; with other arities it may be."""
+    table = reference.read_table(T)
+
+    def listing(*raised):
+        degrees = {(a, b): degree for a, b, degree in table.pairs} | {(a, b): degree for a, b, degree in raised}
+        return table_bytes(table.arities, [pair + (degrees[pair],) for pair in sorted(degrees)])
+    apart, near, nearer = (table_bytes([0, 0], pairs) for pairs in ([], [(0, 1, 5)], [(0, 1, 7)]))
+    for before, after, pattern, heading, cut, told, told_then in (
+            (apart, near, [X], [0], 1, 'match 1000 1000', 'match 5 1000'),        # the lowest falls
+            (apart, near, [1], [0], 5, 'refused 9 0', 'match 5 5'),
+            (near, nearer, [1], [0], 5, 'match 5 5', 'match 7 7'),                # the highest rises
+            (near, nearer, [X], [0], 5, 'match 5 1000', 'match 7 1000'),
+            (near, nearer, [X], [0], 6, 'match 1000 1000', 'match 7 1000'),
+            (T, listing((3, 4, 1)), PATTERN, HEADING, 600, 'match 600 700', 'match 600 700'),
+            (T, listing((1, 2, 650)), PATTERN, HEADING, 600, 'match 600 700', 'match 600 700'),      # 1 and 2 come in, as near as the others
+            (T, listing((1, 3, 900), (2, 3, 900), (5, 7, 800)), PATTERN, HEADING, 600, 'match 600 700', 'match 700 800'),
+            (T, listing((1, 2, 999), (5, 6, 900)), PATTERN, HEADING, 700, 'match 700 700', 'match 700 900'),
+            (T, listing((1, 2, 999), (5, 6, 900)), PATTERN, HEADING, 701, 'refused 10 0', 'match 900 900')):
+        loses_nothing(before, after, pattern, heading, cut)
+        cases.match(before, pattern, heading, cut, told)
+        cases.match(after, pattern, heading, cut, told_then)
+    grown = [table_bytes(table.arities, table.pairs[:count]) for count in range(9)]       # a pair more at a time
+    for pattern, heading, cut in (PATTERN, HEADING, 500), (PATTERN, HEADING, 600), ([X], HEADING, 500), ([0, X, X + 1], [0, 1, 7, 4, 6], 700):
+        for before, after in zip(grown, grown[1:]):
+            loses_nothing(before, after, pattern, heading, cut)
+        for each in grown:
+            cases.match(each, pattern, heading, cut)
+    cases.match(table_bytes([2, 1, 0, 0], []), [0, X, 3], [0, 1, 2, 3], 1000, 'match 1000 1000')
+    cases.match(table_bytes([2, 0, 1, 0], []), [0, X, 3], [0, 1, 2, 3], 1000, 'refused 9 2')      # 3 meets 2 now
+
+
 def same(cases):
     """The highest degree that may be listed, and cut 1000, at which only the same will do."""
     cousins = table_bytes([2, 0, 0, 0], [(1, 2, 999), (2, 3, 999)])
@@ -368,4 +413,4 @@ def many(cases):
     cases.match(T, [1, 0, X, X], [1, 0] + half + [0] + half[2:] + [5], 500)
 
 
-GROUPS = [document, tables, terms, subterms, nearest, rooms, order, clashes, formless, found, own_degrees, gathered, same, many]
+GROUPS = [document, tables, terms, subterms, nearest, rooms, order, clashes, formless, found, own_degrees, gathered, richer, same, many]

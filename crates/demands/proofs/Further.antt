@@ -15,10 +15,11 @@ use Rattle.meaning.proofs.First.{unless-gives}
 use Rattle.meaning.proofs.Recognised.{recognised}
 use Rattle.meaning.proofs.NotListed.{top-not-listed, top-not-written}
 use Rattle.meaning.proofs.Degrees.{symbol-degrees}
+use Rattle.meaning.proofs.PairsKept.{made-richer}
 use Rattle.meaning.proofs.Back.{reads-back}
 use Rattle.meaning.proofs.RoundTrip.{round-trip}
 use Rattle.meaning.proofs.Parts.{terms, subterms, nearest}
-use Rattle.meaning.proofs.Matched.{Ready, ready, demand2}
+use Rattle.meaning.proofs.Matched.{Ready, ready, demand2 as of-match}
 use Rattle.meaning.proofs.Reasons.{reasons}
 use Rattle.meaning.proofs.Sentences.{sentences}
 use Rattle.meaning.proofs.Spans.{answered-none, packed-in-order, variable-degrees}
@@ -27,7 +28,10 @@ use Rattle.meaning.proofs.TopCut.{matchers-make-it, same-heading, at-top-cut}
 use Rattle.demands.specs.Further.{MatchSays, Further}
 use Rattle.demands.proofs.Meant.{meant}
 use Rattle.demands.proofs.Demand1.{demand1}
+use Rattle.demands.proofs.Demands.{demand2}
 use Rattle.demands.proofs.Paired.{lowest-paired, higher-handed}
+use Rattle.demands.proofs.Stated.{Stated, stated}
+use Rattle.demands.proofs.Richer.{loses-nothing, stays-answered}
 use Rattle.demands.proofs.NamedAlone.{named-alone}
 
 is-table : (file : List ℕ) → isTable file ≡ gives aye ↔ TableFile file
@@ -60,7 +64,7 @@ at-top table pattern heading spans sets a p wp h wh =
     at-top-cut (tableIn table) (r .lawful) (r .only-itself) (r .small) pattern heading p wp h wh _ decides (s .reasons) (s .sets-and-degrees)
   where
     d : Demand2 table pattern heading 1000 (matchCall table pattern heading 1000 spans sets)
-    d = demand2 table pattern heading 1000 spans sets a
+    d = of-match table pattern heading 1000 spans sets a
 
     decides : Decides (tableIn table) 1000 p h (matchCall table pattern heading 1000 spans sets)
     decides = rw (d .writes-pattern .only p wp, d .writes-heading .only h wh) (d .decides)
@@ -68,6 +72,9 @@ at-top table pattern heading spans sets a p wp h wh =
 accepted : (table : List ℕ) → isTable table ≡ gives aye → SoundFile table
 unfolding isTable
 accepted table e = unless-gives (first (tableRows table)) aye aye e .0
+
+match-stated : (table pattern heading : List ℕ) (cut : ℕ) (spans sets : List ℕ) → Stated table pattern heading cut spans sets (matchCall table pattern heading cut spans sets)
+match-stated table pattern heading cut spans sets = stated meant demand1 demand2 table pattern heading cut spans sets (says table pattern heading cut spans sets)
 
 -- THEOREM
 pub further : Further meant
@@ -89,4 +96,11 @@ further =
       matches = says;
       matchers-make-it = λ table e. matchers-make-it table (accepted table e);
       top-cut = at-top;
+      made-richer = λ table₁ table₂ e₁ e₂. made-richer table₁ table₂ (accepted table₁ e₁) (accepted table₂ e₂);
+      richer = λ table₁ table₂ pattern heading cut spans₁ sets₁ spans₂ sets₂ more.
+          loses-nothing table₁ table₂ pattern heading cut spans₁ sets₁ spans₂ sets₂ _ _ more
+          (match-stated table₁ pattern heading cut spans₁ sets₁) (match-stated table₂ pattern heading cut spans₂ sets₂);
+      stays-answered = λ table₁ table₂ pattern heading cut spans sets more e₂.
+          stays-answered table₁ table₂ pattern heading cut spans sets _ _ more (accepted table₂ e₂)
+          (match-stated table₁ pattern heading cut spans sets) (match-stated table₂ pattern heading cut spans sets);
     }

@@ -10,7 +10,7 @@ use native.Mathlib.Omega.{arith}
 use lib.Dec.{lit<, lit≤}
 use lib.ListN.{length, getD}
 use Rattle.theory.specs.Tree.{sym, ∅ₚ, stands}
-use Rattle.theory.specs.Table.{degree}
+use Rattle.theory.specs.Table.{Richer, degree}
 use Rattle.theory.specs.Pairs.{pair, isPair}
 use Rattle.theory.specs.Read.{walk, several}
 use Rattle.theory.specs.Decode.{patternOf, termOf, parse, parseRow}
@@ -18,7 +18,7 @@ use Rattle.meaning.specs.Limits.{variableCount, spanWidth}
 use Rattle.meaning.specs.File.{symbolCount, pairCount, aritiesIn, pairsIn, tableIn, fileOf}
 use Rattle.meaning.specs.Refusals.{first, Given, row1-short, row1-offsets, row2, row3, row4, row5, row6, row7, row8, row8-output, row9, row10, tableRows, SoundFile}
 use Rattle.meaning.specs.Packing.{packedCount, packedSpans}
-use Rattle.meaning.specs.Calls.{Answer, refused, gives, isTable, degreeRows, headingDegree, subtermRows, nearerRows, degrees, zeros, facesIn, inputRows, searchRows, matchRows, matched, laterSpans, writerRows, written, laterOutput}
+use Rattle.meaning.specs.Calls.{Answer, refused, gives, aye, isTable, degreeRows, headingDegree, subtermRows, nearerRows, degrees, zeros, facesIn, inputRows, searchRows, matchRows, matched, laterSpans, writerRows, written, laterOutput}
 use Rattle.meaning.specs.Demands.{WritesTerm, WritesPattern, Accepted}
 use Rattle.meaning.specs.Tables.{degreeAt, Bytes}
 use Rattle.meaning.specs.Matching.{InSpan}
@@ -28,6 +28,7 @@ use Rattle.meaning.proofs.Bits.{getD-zeros}
 use Rattle.meaning.proofs.RoundTrip.{round-trip}
 use Rattle.meaning.proofs.Examples.{T, arities, pairs, p, h}
 use Rattle.meaning.proofs.Wrong.{P, H, writes-P, writes-H}
+use Rattle.demands.proofs.WrongRicher.{apart, near, added}
 
 -- what the listing asks, at a cut, of buffers that have just the room
 abbrev asked : ℕ → Type 0
@@ -116,3 +117,9 @@ unfolding
     matched matchRows inputRows searchRows facesIn packedCount tableRows row1-short row1-offsets row2 row3 row4 row5 row6 row7 row8 row9 row10 tableIn aritiesIn pairsIn
     patternOf termOf parse parseRow walk several
 met-top = ((lit< tt, tt), refl, refl, refl)
+
+-- .. and two tables, the second richer, asked the same
+pub met-richer : Richer (tableIn apart) (tableIn (near 5)) × (isTable apart ≡ gives aye) × (isTable (near 5) ≡ gives aye)
+    × Accepted apart (32768 ∷ []) (0 ∷ []) 1 (zeros 128) (zeros 4) × Accepted (near 5) (32768 ∷ []) (0 ∷ []) 1 (zeros 128) (zeros 4)
+unfolding isTable inputRows tableRows row1-short row1-offsets row2 row3 row4 row5 row6 row7 row8 tableIn aritiesIn pairsIn walk several
+met-richer = (added, refl, refl, refl, refl)

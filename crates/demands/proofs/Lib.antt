@@ -6,6 +6,9 @@ pub mod Demand1
 pub mod Demands
 pub mod Paired
 pub mod NamedAlone
+pub mod Stated
+pub mod PackedAlike
+pub mod Richer
 pub mod Further
 pub mod Keeps
 pub mod Public
@@ -18,6 +21,7 @@ pub mod WrongRefusals
 pub mod WrongAbsent
 pub mod WrongPlaces
 pub mod WrongOwn
+pub mod WrongRicher
 pub mod WrongAllowed
 -- a program that meets the statements keeps its promises
 pub mod Settled

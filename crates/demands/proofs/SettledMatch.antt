@@ -1,7 +1,7 @@
 -- What the statements leave open of the match: nothing. A refusal fixes both buffers. Of an answer, demand 2 fixes the degrees, and by any one matcher
 -- the counts of positions; the order of packing then fixes the starts, the sentences on each variable its own degrees, the sentence on sets every bit
 -- at a variable's position, and all other words are 0.
-use mathlib.Core.Path.{_≡_, refl, sym as inv, ap, ap₂, _∙_, fun-ext}
+use mathlib.Core.Path.{_≡_, refl, sym as inv, ap, ap₂, _∙_}
 use mathlib.Core.Logic.{_⊎_, inl, inr}
 use mathlib.Core.List.{List}
 use mathlib.Core.Bool.{Bool, true, false, _&&_, false≢true}
@@ -11,7 +11,7 @@ use native.Mathlib.Decide.{decLt}
 use native.Mathlib.Omega.{arith}
 use lib.Dec.{ltb, leb}
 use lib.Seq.{ext-getD}
-use lib.ListN.{length, getD}
+use lib.ListN.{getD}
 use borrow.Author.Tests.{le-leb, lt-ltb, leb-true, ltb-true}
 use Rattle.theory.specs.Tree.{Term, Pattern, stands}
 use Rattle.theory.specs.Table.{Table}
@@ -22,25 +22,16 @@ use Rattle.sets.proofs.Word.{word-is}
 use Rattle.meaning.specs.Limits.{wordBits, setWords, setRoom, variableCount, spanWidth}
 use Rattle.meaning.specs.File.{tableIn}
 use Rattle.meaning.specs.Refusals.{Refusal, refusal, first}
-use Rattle.meaning.specs.Packing.{firsts, startIn}
 use Rattle.meaning.specs.Calls.{refused, gives, degrees, Matched, inputRows, searchRows, matchRows}
 use Rattle.meaning.specs.Buffers.{firstPosition, positionCount, ownLowest, ownHighest, bit, holds}
-use Rattle.meaning.specs.Demands.{Exactly, WritesTerm, WritesPattern, Accepted, Found, Demand2 as MatchOf}
-use Rattle.meaning.specs.Matching.{standing, InSpan, Leaves}
+use Rattle.meaning.specs.Demands.{Accepted, Found}
+use Rattle.meaning.specs.Matching.{InSpan, Leaves}
 use Rattle.meaning.proofs.First.{append-none}
 use Rattle.meaning.proofs.Wrong.{aligned, found-given}
 use Rattle.demands.specs.Further.{MatchSays}
 use Rattle.demands.proofs.Settled.{by-refusal, by-none, find}
-
--- What is stated of one match.
-pub record Stated (table pattern heading : List ℕ) (cut : ℕ) (spans sets : List ℕ) (r : Matched) : Type 0 where
-  pub exactly : Exactly (matchRows table pattern heading cut spans sets) (r .answer)
-  pub leaves : Leaves spans sets r
-  pub spans-long : length (r .spans) ≡ length spans
-  pub sets-long : length (r .sets) ≡ length sets
-  pub decided : Accepted table pattern heading cut spans sets → MatchOf table pattern heading cut r
-  pub says : Accepted table pattern heading cut spans sets → (p : Pattern) → WritesPattern (tableIn table) pattern p → (h : Term) → WritesTerm (tableIn table) heading h
-      → MatchSays (tableIn table) cut p h pattern r
+use Rattle.demands.proofs.Stated.{Stated}
+use Rattle.demands.proofs.PackedAlike.{Gives, counts-alike, starts-alike}
 
 -- ---- two answers to one question
 
@@ -65,24 +56,21 @@ module _ (T : Table) (cut : ℕ) (p : Pattern) (h : Term) (pattern spans sets : 
   past : (i : ℕ) → spanWidth * variableCount ≤ i → getD (r .spans) i 0 ≡ getD (s .spans) i 0
   past i l = lr .other-spans _ (fr .answered) i l ∙ inv (ls .other-spans _ (fs .answered) i l)
 
+  -- a substitution that can be drawn from both
+  abbrev σ : ℕ → Term
+  σ = fr .is-lowest .reached .0
+
+  in-r : Gives T p r σ
+  in-r = fr .matchers σ .0 (fr .is-lowest .reached .1)
+
+  in-s : Gives T p s σ
+  in-s = fs .matchers σ .0 (fr .is-lowest .reached .1)
+
   counts : (v : ℕ) → positionCount (r .spans) v ≡ positionCount (s .spans) v
-  counts v = go (decLt v variableCount) (stands v p) refl
-    where
-      go : Dec (v < variableCount) → (b : Bool) → stands v p ≡ b → positionCount (r .spans) v ≡ positionCount (s .spans) v
-      go (no m) b e = past (spanWidth * v + 1) (omega arith)
-      go (yes l) true e =
-          let m = fr .is-lowest .reached in
-          inv (fr .matchers (m .0) .0 (m .1) v e .as-many) ∙ fs .matchers (m .0) .0 (m .1) v e .as-many
-      go (yes l) false e = mr .packed _ (fr .answered) .absent v l e .1 ∙ inv (ms .packed _ (fs .answered) .absent v l e .1)
+  counts = counts-alike T T p r s σ in-r in-s (mr .packed _ (fr .answered)) (ms .packed _ (fs .answered)) past
 
   starts : (v : ℕ) → firstPosition (r .spans) v ≡ firstPosition (s .spans) v
-  starts v = go (decLt v variableCount) (stands v p) refl
-    where
-      go : Dec (v < variableCount) → (b : Bool) → stands v p ≡ b → firstPosition (r .spans) v ≡ firstPosition (s .spans) v
-      go (no m) b e = past (spanWidth * v) (omega arith)
-      go (yes l) true e =
-          mr .packed _ (fr .answered) .starts v e ∙ ap (λ count. startIn count v (firsts (standing p))) (fun-ext counts) ∙ inv (ms .packed _ (fs .answered) .starts v e)
-      go (yes l) false e = mr .packed _ (fr .answered) .absent v l e .0 ∙ inv (ms .packed _ (fs .answered) .absent v l e .0)
+  starts = starts-alike T T p r s σ in-r in-s (mr .packed _ (fr .answered)) (ms .packed _ (fs .answered)) past
 
   own-lowest : (v : ℕ) → ownLowest (r .spans) v ≡ ownLowest (s .spans) v
   own-lowest v = go (decLt v variableCount) (stands v p) refl

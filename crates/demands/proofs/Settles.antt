@@ -1,7 +1,5 @@
 -- The other direction: demand 1, demand 2 and the further statements leave nothing open. A program that meets them keeps every promise, since of two
 -- programs that meet them each call gives the same, and the meaning's program meets them. So no wrong program is left that they allow.
-use mathlib.Core.List.{List}
-use Prim.Native.Nat.{ℕ}
 use Rattle.demands.specs.Program.{Program, Promise}
 use Rattle.demands.specs.Demand1.{Demand1}
 use Rattle.demands.specs.Demand2.{Demand2}
@@ -14,20 +12,8 @@ use Rattle.demands.proofs.Further.{further}
 use Rattle.demands.proofs.Keeps.{keeps}
 use Rattle.demands.proofs.Settled.{same-is-table, same-symbol-degree, same-heading-degree, same-subterm, same-nearer}
 use Rattle.demands.proofs.SettledFiles.{same-arity-of, same-pair-of, same-writing}
-use Rattle.demands.proofs.SettledMatch.{Stated, same-match}
-
--- what the statements say of each match
-stated : (P : Program) → Demand1 P → Demand2 P → Further P → (table pattern heading : List ℕ) (cut : ℕ) (spans sets : List ℕ)
-    → Stated table pattern heading cut spans sets (P .match table pattern heading cut spans sets)
-stated P one two more table pattern heading cut spans sets =
-    record {
-      exactly = one .match table pattern heading cut spans sets;
-      leaves = one .match-leaves table pattern heading cut spans sets;
-      spans-long = one .lengths .of-spans table pattern heading cut spans sets;
-      sets-long = one .lengths .of-sets table pattern heading cut spans sets;
-      decided = two .match table pattern heading cut spans sets;
-      says = more .matches table pattern heading cut spans sets;
-    }
+use Rattle.demands.proofs.Stated.{stated}
+use Rattle.demands.proofs.SettledMatch.{same-match}
 
 module _ (P : Program) (one : Demand1 P) (two : Demand2 P) (more : Further P) where
   -- THEOREM
@@ -40,7 +26,9 @@ module _ (P : Program) (one : Demand1 P) (two : Demand2 P) (more : Further P) wh
         subterm = same-subterm P meant one demand1 two demand2 more further;
         nearer = same-nearer P meant one demand1 two demand2 more further;
         match = λ table pattern heading cut spans sets.
-            same-match table pattern heading cut spans sets _ _ (stated P one two more table pattern heading cut spans sets) (stated meant demand1 demand2 further table pattern heading cut spans sets);
+            same-match table pattern heading cut spans sets _ _
+            (stated P one two table pattern heading cut spans sets (more .matches table pattern heading cut spans sets))
+            (stated meant demand1 demand2 table pattern heading cut spans sets (further .matches table pattern heading cut spans sets));
         write-table = same-writing P meant one demand1 more further;
         arity-of = same-arity-of P meant one demand1 more further;
         pair-of = same-pair-of P meant one demand1 more further;

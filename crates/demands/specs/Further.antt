@@ -6,17 +6,18 @@ use mathlib.Core.Option.{none}
 use Prim.Native.Nat.{ℕ, _≤_, _<_}
 use lib.ListN.{length, getD}
 use Rattle.theory.specs.Tree.{Term, Pattern}
-use Rattle.theory.specs.Table.{Table}
+use Rattle.theory.specs.Table.{Table, Richer}
 use Rattle.theory.specs.Pairs.{Pair}
 use Rattle.meaning.specs.File.{tableIn}
 use Rattle.meaning.specs.Refusals.{first, SoundFile}
 use Rattle.meaning.specs.Calls.{Answer, refused, gives, degreeRows, aye, Degrees, degrees, Matched}
 use Rattle.meaning.specs.Demands.{WritesTerm, WritesPattern, Accepted}
-use Rattle.meaning.specs.Tables.{TableFile, TopNotListed, TopNotWritten, SymbolDegrees, ReadBack, RoundTrip}
+use Rattle.meaning.specs.Tables.{TableFile, TopNotListed, TopNotWritten, SymbolDegrees, MadeRicher, ReadBack, RoundTrip}
 use Rattle.meaning.specs.Parts.{TermLists, Subterms, Nearest}
 use Rattle.meaning.specs.Matching.{Reasons, SetsAndDegrees, VariableDegrees, PackedInOrder, NoOverlap}
 use Rattle.meaning.specs.TopCut.{MatchersMakeIt, AtTopCut}
 use Rattle.demands.specs.Program.{Program, handedBack}
+use Rattle.demands.specs.Richer.{LosesNothing}
 
 -- ---- headings, by what the program itself says of symbols and of headings
 
@@ -78,3 +79,10 @@ pub record Further (P : Program) : Type 0 where
   pub top-cut : (table pattern heading spans sets : List ℕ) → Accepted table pattern heading 1000 spans sets
       → (p : Pattern) → WritesPattern (tableIn table) pattern p → (h : Term) → WritesTerm (tableIn table) heading h
       → AtTopCut (tableIn table) p h pattern heading (P .match table pattern heading 1000 spans sets)
+  -- two tables, the second richer: one question asked of both; and with the same buffers, where no more is asked of the second file than that it is a table
+  pub made-richer : (table₁ table₂ : List ℕ) → P .isTable table₁ ≡ gives aye → P .isTable table₂ ≡ gives aye → MadeRicher table₁ table₂
+  pub richer : (table₁ table₂ pattern heading : List ℕ) (cut : ℕ) (spans₁ sets₁ spans₂ sets₂ : List ℕ) → Richer (tableIn table₁) (tableIn table₂)
+      → Accepted table₁ pattern heading cut spans₁ sets₁ → Accepted table₂ pattern heading cut spans₂ sets₂
+      → LosesNothing table₁ table₂ pattern heading cut (P .match table₁ pattern heading cut spans₁ sets₁) (P .match table₂ pattern heading cut spans₂ sets₂)
+  pub stays-answered : (table₁ table₂ pattern heading : List ℕ) (cut : ℕ) (spans sets : List ℕ) → Richer (tableIn table₁) (tableIn table₂) → P .isTable table₂ ≡ gives aye
+      → (d : Degrees) → P .match table₁ pattern heading cut spans sets .answer ≡ gives d → (e : Degrees) × (P .match table₂ pattern heading cut spans sets .answer ≡ gives e)

@@ -85,7 +85,7 @@ module _ (table : List ℕ) (e : SoundFile table) where
   unfolding symbolDegree
   given-degree a b d k = unless-gives (first (symbolRows table a b)) (tableIn table .deg a b) d k .1
 
-  listed-sound : (k l h d : ℕ) → k < pairCount table → getD (pairsIn table) k (pair 0 0 0) ≡ pair l h d → SoundPair (aritiesIn table) (pair l h d)
+  pub listed-sound : (k l h d : ℕ) → k < pairCount table → getD (pairsIn table) k (pair 0 0 0) ≡ pair l h d → SoundPair (aritiesIn table) (pair l h d)
   listed-sound k l h d m f =
       let n : k < length (pairsIn table) = omega (arith, length-pairsIn table) in
       subst (SoundPair (aritiesIn table)) f (all-getD (SoundPair (aritiesIn table)) (pairsIn table) k (pair 0 0 0) n (q .pairs))

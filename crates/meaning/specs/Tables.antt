@@ -1,5 +1,5 @@
--- What is said of tables: which files are tables, the degrees of their symbols, reading back and writing. Statements; the proofs are in
--- proofs/Recognised, proofs/NotListed, proofs/Sound, proofs/Degrees, proofs/Back and proofs/RoundTrip.
+-- What is said of tables: which files are tables, the degrees of their symbols, richer tables, reading back and writing. Statements; the proofs are in
+-- proofs/Recognised, proofs/NotListed, proofs/Sound, proofs/Degrees, proofs/PairsKept, proofs/Back and proofs/RoundTrip.
 use mathlib.Core.Path.{_≡_}
 use mathlib.Core.Logic.{_↔_, _⊎_}
 use mathlib.Core.List.{List, _++_}
@@ -7,7 +7,7 @@ use mathlib.Core.Bool.{false}
 use Prim.Native.Nat.{ℕ, suc, _+_, _*_, _≤_, _<_}
 use lib.ListN.{length, getD, take, drop}
 use Rattle.theory.specs.Least.{All}
-use Rattle.theory.specs.Table.{Lawful, OnlyItself}
+use Rattle.theory.specs.Table.{Lawful, OnlyItself, Richer}
 use Rattle.theory.specs.Pairs.{Pair, pair, isPair}
 use Rattle.meaning.specs.File.{number, symbolCount, pairCount, aritiesOffset, pairsOffset, totalField, total, aritiesIn, pairsIn, tableIn}
 use Rattle.meaning.specs.Refusals.{SoundFile}
@@ -89,6 +89,26 @@ pub record SymbolDegrees (table : List ℕ) (degreeOf : ℕ → ℕ → Answer �
       → degreeOf a b ≡ gives 0
   pub first-outside : (a b : ℕ) → symbolCount table ≤ a → degreeOf a b ≡ refused 13 0
   pub second-outside : (a b : ℕ) → a < symbolCount table → symbolCount table ≤ b → degreeOf a b ≡ refused 13 1
+
+-- ---- how a table is made richer
+
+-- Pair j of the second file is pair k of the first, with a degree that is not lower.
+pub record KeptAs (table₁ table₂ : List ℕ) (k j : ℕ) : Type 0 where
+  pub same-lower : lowerAt table₁ k ≡ lowerAt table₂ j
+  pub same-higher : higherAt table₁ k ≡ higherAt table₂ j
+  pub not-lower : degreeAt table₁ k ≤ degreeAt table₂ j
+
+-- The second file has the arities of the first, and each pair of the first still stands in it. Others may stand there besides.
+pub record PairsKept (table₁ table₂ : List ℕ) : Type 0 where
+  pub as-many : symbolCount table₁ ≡ symbolCount table₂
+  pub same-arities : (a : ℕ) → a < symbolCount table₁ → arityByte table₁ a ≡ arityByte table₂ a
+  pub kept : (k : ℕ) → k < pairCount table₁ → (j : ℕ) × (j < pairCount table₂) × KeptAs table₁ table₂ k j
+
+-- So it is made, and in no other way.
+abbrev pub MadeRicher : List ℕ → List ℕ → Type 0
+MadeRicher table₁ table₂ = Richer (tableIn table₁) (tableIn table₂) ↔ PairsKept table₁ table₂
+
+-- ---- reading back
 
 -- Reading back gives the bytes of the file at the symbol, at the pair; past the last one there is nothing to read.
 pub record ReadBack (table : List ℕ) (arityOf : ℕ → Answer ℕ) (pairOf : ℕ → Answer Pair) : Type 0 where

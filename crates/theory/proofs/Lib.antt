@@ -14,6 +14,7 @@ pub mod Verdict
 pub mod Corollaries
 pub mod More
 pub mod Own
+pub mod Richer
 pub mod Place
 pub mod Present
 pub mod Taken

@@ -113,6 +113,24 @@ impl Drawn {
         Drawn::table(draw, symbols, hundredths)
     }
 
+    /// The table with some pairs added and some degrees raised.
+    pub fn richer(&self, draw: &mut Draw) -> Self {
+        let symbols = self.arities.len() as u16;
+        let (mut listed, mut pairs) = (self.pairs.iter().peekable(), Vec::new());
+        let mut room = 8192 - self.pairs.len();
+        for (lower, higher) in (0..symbols).flat_map(|lower| (lower + 1..symbols).map(move |higher| (lower, higher))) {
+            let alike = self.arities[usize::from(lower)] == self.arities[usize::from(higher)];
+            if let Some(&pair) = listed.next_if(|pair| (pair.lower, pair.higher) == (lower, higher)) {
+                let degree = if draw.chance(30) { pair.degree.max(draw.degree()) } else { pair.degree };
+                pairs.push(Pair { degree, ..pair });
+            } else if alike && room > 0 && draw.chance(30) {
+                room -= 1;
+                pairs.push(Pair { lower, higher, degree: draw.degree() });
+            }
+        }
+        Drawn::new(self.arities.clone(), pairs)
+    }
+
     pub fn file(&self) -> Vec<u8> {
         file_of(&self.arities, &self.pairs)
     }

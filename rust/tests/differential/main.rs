@@ -7,6 +7,7 @@ mod examples;
 mod lent;
 mod matches;
 mod raw;
+mod richer;
 mod tables;
 mod terms;
 mod writer;
