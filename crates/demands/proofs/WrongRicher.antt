@@ -58,24 +58,24 @@ sound : SoundFile apart × SoundFile (near 5) × SoundFile (near 7)
 unfolding tableRows row1-short row1-offsets row2 row3 row4 aritiesIn pairsIn
 sound = (refl, refl, refl)
 
+-- of both symbols
+both : (P : ℕ → Type 0) → P 0 → P 1 → (a : ℕ) → a < 2 → P a
+both P x y zero l = x
+both P x y (suc zero) l = y
+both P x y (suc (suc a)) l = absurd (omega arith)
+
 -- a pair is added
 pub added : Richer (tableIn apart) (tableIn (near 5))
-added = made-richer apart (near 5) (sound .0) (sound .1) .1 (record { as-many = refl; same-arities = same; kept = λ k l. absurd (not-suc-le-zero l) })
-  where
-    same : (a : ℕ) → a < 2 → arityByte apart a ≡ arityByte (near 5) a
-    same zero l = refl
-    same (suc zero) l = refl
-    same (suc (suc a)) l = absurd (omega arith)
+added =
+    made-richer apart (near 5) (sound .0) (sound .1) .1
+    (record { as-many = refl; same-arities = both (λ a. arityByte apart a ≡ arityByte (near 5) a) refl refl; kept = λ k l. absurd (not-suc-le-zero l) })
 
 -- a degree is raised
 raised : Richer (tableIn (near 5)) (tableIn (near 7))
-raised = made-richer (near 5) (near 7) (sound .1) (sound .2) .1 (record { as-many = refl; same-arities = same; kept = kept })
+raised =
+    made-richer (near 5) (near 7) (sound .1) (sound .2) .1
+    (record { as-many = refl; same-arities = both (λ a. arityByte (near 5) a ≡ arityByte (near 7) a) refl refl; kept = kept })
   where
-    same : (a : ℕ) → a < 2 → arityByte (near 5) a ≡ arityByte (near 7) a
-    same zero l = refl
-    same (suc zero) l = refl
-    same (suc (suc a)) l = absurd (omega arith)
-
     kept : (k : ℕ) → k < 1 → (j : ℕ) × (j < 1) × KeptAs (near 5) (near 7) k j
     kept zero l = (0, l, record { same-lower = refl; same-higher = refl; not-lower = omega arith })
     kept (suc k) l = absurd (omega arith)
@@ -87,20 +87,26 @@ as-near = (refl, λ a b. omega arith)
 
 -- ---- what is answered: x0 with 0 at cut 1; 1 with 0 at cut 5; 0(x0, 3) with 0(1(2), 3), which the other arities make 0(1, 2(3))
 
+abbrev pattern : List ℕ
+pattern = 0 ∷ 32768 ∷ 3 ∷ []
+
+abbrev heading : List ℕ
+heading = 0 ∷ 1 ∷ 2 ∷ 3 ∷ []
+
 -- the answer of the meaning
 abbrev meantOf : List ℕ → List ℕ → List ℕ → ℕ → Answer Degrees
 meantOf table pattern heading cut = matched table pattern heading cut (zeros 128) (zeros 16)
 
 computed : (meantOf apart (32768 ∷ []) (0 ∷ []) 1 ≡ gives (degrees 1000 1000)) × (meantOf (near 5) (32768 ∷ []) (0 ∷ []) 1 ≡ gives (degrees 5 1000))
     × (meantOf (near 5) (1 ∷ []) (0 ∷ []) 5 ≡ gives (degrees 5 5)) × (meantOf (near 7) (1 ∷ []) (0 ∷ []) 5 ≡ gives (degrees 7 7))
-    × (meantOf (four 1 0) (0 ∷ 32768 ∷ 3 ∷ []) (0 ∷ 1 ∷ 2 ∷ 3 ∷ []) 1000 ≡ gives (degrees 1000 1000))
-    × (meantOf (four 0 1) (0 ∷ 32768 ∷ 3 ∷ []) (0 ∷ 1 ∷ 2 ∷ 3 ∷ []) 1000 ≡ refused 9 2)
+    × (meantOf (four 1 0) pattern heading 1000 ≡ gives (degrees 1000 1000))
+    × (meantOf (four 0 1) pattern heading 1000 ≡ refused 9 2)
 unfolding
     matched matchRows inputRows searchRows facesIn packedCount tableRows row1-short row1-offsets row2 row3 row4 row5 row6 row7 row8 row9 row10 tableIn aritiesIn pairsIn
     patternOf termOf parse parseRow walk several
 computed = (refl, refl, refl, refl, refl, refl)
 
-passed : Accepted (four 1 0) (0 ∷ 32768 ∷ 3 ∷ []) (0 ∷ 1 ∷ 2 ∷ 3 ∷ []) 1000 (zeros 128) (zeros 16) × Accepted (four 0 1) (0 ∷ 32768 ∷ 3 ∷ []) (0 ∷ 1 ∷ 2 ∷ 3 ∷ []) 1000 (zeros 128) (zeros 16)
+passed : Accepted (four 1 0) pattern heading 1000 (zeros 128) (zeros 16) × Accepted (four 0 1) pattern heading 1000 (zeros 128) (zeros 16)
 unfolding inputRows tableRows row1-short row1-offsets row2 row3 row4 row5 row6 row7 row8 tableIn aritiesIn pairsIn walk several
 passed = (refl, refl)
 
@@ -121,7 +127,7 @@ module _ (P : Program) (keeps : Promise P) where
   -- THEOREM: with other arities an answer is refused by 9
   pub other-arities-lose : AnyArities P → ⊥
   other-arities-lose any =
-      let e = any (four 1 0) (four 0 1) (0 ∷ 32768 ∷ 3 ∷ []) (0 ∷ 1 ∷ 2 ∷ 3 ∷ []) 1000 (as-near .0) (as-near .1) (passed .0) (passed .1) (degrees 1000 1000) (answer-is _ _ _ _ (computed .4)) .1 in
+      let e = any (four 1 0) (four 0 1) pattern heading 1000 (as-near .0) (as-near .1) (passed .0) (passed .1) (degrees 1000 1000) (answer-is _ _ _ _ (computed .4)) .1 in
       let f = answer-is _ _ _ _ (computed .5) in
       let z : _≡_ {A = ℕ} 0 1 = cc in
       omega arith

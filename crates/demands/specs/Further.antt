@@ -79,7 +79,8 @@ pub record Further (P : Program) : Type 0 where
   pub top-cut : (table pattern heading spans sets : List ℕ) → Accepted table pattern heading 1000 spans sets
       → (p : Pattern) → WritesPattern (tableIn table) pattern p → (h : Term) → WritesTerm (tableIn table) heading h
       → AtTopCut (tableIn table) p h pattern heading (P .match table pattern heading 1000 spans sets)
-  -- two tables, the second richer: one question asked of both; and with the same buffers, where no more is asked of the second file than that it is a table
+  -- a richer table: which files hold one; one question, asked of two tables of which the second is richer; and with the same buffers, where it is enough
+  -- that the second file is a table
   pub made-richer : (table₁ table₂ : List ℕ) → P .isTable table₁ ≡ gives aye → P .isTable table₂ ≡ gives aye → MadeRicher table₁ table₂
   pub richer : (table₁ table₂ pattern heading : List ℕ) (cut : ℕ) (spans₁ sets₁ spans₂ sets₂ : List ℕ) → Richer (tableIn table₁) (tableIn table₂)
       → Accepted table₁ pattern heading cut spans₁ sets₁ → Accepted table₂ pattern heading cut spans₂ sets₂
