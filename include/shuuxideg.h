@@ -4,7 +4,7 @@
  *
  * WHAT THE CALLS ARE ABOUT
  *
- * A table has up to 256 symbols, numbered from 0. Each has an arity, the number of arguments that it takes, 0 to 8. A degree says how near two
+ * A table has up to 512 symbols, numbered from 0. Each has an arity, the number of arguments that it takes, 0 to 8. A degree says how near two
  * symbols are, in thousandths: a symbol has 1000 with itself, two symbols that the table lists as a pair have the pair's degree, in either order,
  * which is 1 to 999, and any other two have 0; so at cut 1000 only the same is found. Nearness is not passed on: that a is near b and b near c
  * says nothing of a and c. A table is lent as the bytes of a table file, which shx_write_table makes and docs/FORMATS.md describes.
@@ -26,7 +26,7 @@
  *   No.  Refused because                                                      Place                              By
  *    1   the table has under 10 bytes; or an offset or a length in its        0                                  every call with a table
  *        header is not what its counts ask for; or it has another length
- *    2   it has no symbol or over 256, or over 8192 pairs                     0                                  those; shx_write_table
+ *    2   it has no symbol or over 512, or over 8192 pairs                     0                                  those; shx_write_table
  *    3   an arity is above 8                                                  the first such symbol              those; shx_write_table
  *    4   a pair's lower symbol is not below its higher one, the higher is     the first such pair, from 0        those; shx_write_table
  *        no symbol, their arities differ, the degree is not 1 to 999, or
@@ -34,7 +34,8 @@
  *    5   the cut is not 1 to 1000                                             0                                  shx_match
  *    6   the pattern is no term; or the first heading is no heading           the fault, see below               shx_match; shx_heading_degree
  *    7   the heading, or the second one, is no heading                        the fault, see below               shx_match; shx_heading_degree
- *    8   spans or sets are too short; the output is shorter than the file     0                                  shx_match; shx_write_table
+ *    8   spans or sets are too short; the output is shorter than what is      0                                  shx_match; shx_write_table;
+ *        to be written; the saved words are not of whole sets                                                    shx_widen
  *    9   a symbol of the pattern is not near enough to the one it faces       the first such node's index        shx_match
  *   10   no one term is near enough to all that faces some variable           the least such variable's number   shx_match
  *   13   one of the two numbers is no symbol of the table                     0 for the first, else 1            shx_symbol_degree
@@ -68,9 +69,10 @@
 /* the node of variable v, 0 to 31 */
 #define SHX_VARIABLE(v) ((uint16_t)(32768u + (v)))
 
-/* how many numbers spans has, and how many words of sets a node of the heading takes */
+/* how many numbers spans has, and how many words of sets a node of the heading takes; how many it took while a table had up to 256 symbols */
 #define SHX_SPANS 128
-#define SHX_SET_WORDS 4
+#define SHX_SET_WORDS 8
+#define SHX_SAVED_WORDS 4
 
 /* whether symbol k is in the set at position p */
 #define SHX_HAS(sets, p, k) (((sets)[SHX_SET_WORDS * (size_t)(p) + (k) / 64] >> ((k) % 64)) & 1u)
@@ -126,7 +128,7 @@ uint8_t shx_nearer(
  *           one for each node of the terms that may stand for it, in preorder. A variable with 0 positions is not in the pattern. spans[4 * v + 2]
  *           and spans[4 * v + 3] are its own lowest and highest degree: so near to all that it faces is the worst term for it, and so near the best.
  *   sets    (at least SHX_SET_WORDS words for each node of the heading) has at position p the symbols that may stand there, symbol k as bit k % 64
- *           of word 4 * p + k / 64: SHX_HAS(sets, p, k).
+ *           of word SHX_SET_WORDS * p + k / 64: SHX_HAS(sets, p, k).
  *   Choosing one symbol from each set of each variable gives all the ways, and each choice is one. Behind what is used both buffers are 0.
  *
  * Refused: *lowest and *highest are 0. 1 to 8 leave spans and sets as they were, 9 and 10 fill both with 0.
@@ -141,6 +143,13 @@ uint32_t shx_match(
  */
 uint32_t shx_write_table(
     const uint8_t *arities, size_t symbols, const struct shx_pair_record *pairs, size_t count, uint8_t *out, size_t out_len, size_t *total);
+
+/*
+ * The sets of an answer that was saved while a set had SHX_SAVED_WORDS words, made sets of today: each set's words and zeros behind them, to the
+ * front of out. Stores how many words were written, twice words_len; what out has behind them stays. Spans and degrees of a saved answer stay
+ * as they are. Refusal 8, which changes nothing, where words_len is no multiple of SHX_SAVED_WORDS, or out_len below twice words_len.
+ */
+uint32_t shx_widen(const uint64_t *words, size_t words_len, uint64_t *out, size_t out_len, size_t *written);
 
 #ifdef __cplusplus
 }

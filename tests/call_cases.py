@@ -2,17 +2,18 @@
 
 A case is nine numbers (which call; how many bytes there are, as two numbers to be added; how many numbers each of three lists has; three
 numbers that the call takes besides), then the bytes (the table, or the arities to be written) and the lists (nodes, or the pairs to be
-written). Its answer is a line that begins with the case's number.
+written; or words, four numbers to each, the low one first). Its answer is a line that begins with the case's number.
 """
 import sys
 
 import reference
 from reference import Refused, two_bytes
 
-# as in the program: what fills a match's buffers before the call, their lengths, the length of a write's output, and room for bytes and a list
-GUARD, SPANS, SETS, OUTPUT, BYTES, LONGEST = 9999, 136, 4112, 72, 65544, 24579
+# as in the program: what fills a match's buffers before the call, their lengths (that of sets is the converter's output's too), the length of a
+# write's output, and room for bytes and a list
+GUARD, SPANS, SETS, OUTPUT, BYTES, LONGEST = 9999, 136, 1026 * reference.WORDS, 72, 65544, 24579
 
-SYMBOL_DEGREE, DEGREE, SUBTERM, NEARER, MATCH, IS_TABLE, ARITY, PAIR, WRITE = range(1, 10)
+SYMBOL_DEGREE, DEGREE, SUBTERM, NEARER, MATCH, IS_TABLE, ARITY, PAIR, WRITE, WIDEN = range(1, 11)
 
 
 # ---- what is asked
@@ -88,17 +89,28 @@ def write_text(arities, numbers, room):
     return said + output_text(output)
 
 
+def widen_text(saved, room):
+    output = [GUARD] * SETS
+    try:
+        data = reference.widen(saved, room)
+        said = 'written %d' % len(data)
+        output[:len(data)] = data
+    except Refused as why:
+        said = refused(why)
+    return said + ' output' + runs(output)
+
+
 # ---- cases
 
 class Cases:
     """Each method adds a case, with the reference's answer where it has one. Where another source tells the answer the two have to agree;
-    for a match it may leave out the buffers."""
+    for a match and for saved answers it may leave out the buffers."""
 
     def __init__(self):
         self.asked, self.lines = [], []
 
     def add(self, kind, data, lists, numbers, answer, told):
-        if None not in (answer, told) and answer != told and not answer.startswith(told + ' spans'):
+        if None not in (answer, told) and answer != told and not answer.startswith((told + ' spans', told + ' output')):
             sys.exit('kind %d, bytes %.300s, lists %.300s, numbers %s: %.300s, not %.300s' % (kind, data.hex(), lists, numbers, answer, told))
         assert len(data) <= BYTES and max(map(len, lists), default=0) <= LONGEST
         sizes = two_numbers(len(data)) + [len(nodes) for nodes in lists] + [0] * (3 - len(lists))
@@ -139,7 +151,12 @@ class Cases:
 
     def match(self, table, pattern, heading, cut, told=None, spans=128, sets=None):
         if sets is None:
-            sets = 4 * min(len(heading), 1024)
+            sets = reference.WORDS * min(len(heading), 1024)
         assert spans < SPANS and sets < SETS
         answer = match_text(table, pattern, heading, cut, spans, sets)
         self.add(MATCH, table, [pattern, heading], [cut, spans, sets], answer, told)
+
+    def widen(self, saved, room, told=None):
+        assert room < SETS
+        numbers = [word >> at & 65535 for word in saved for at in range(0, 64, 16)]
+        self.add(WIDEN, b'', [numbers], [room], widen_text(saved, room), told)

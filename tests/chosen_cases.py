@@ -4,7 +4,7 @@ A group adds its cases to the collector that it is given, with the answer where 
 """
 import reference
 from drawing import X, with_byte
-from reference import table_bytes
+from reference import MOST_PAIRS, MOST_SYMBOLS, SAVED, WORDS, table_bytes
 
 T = table_bytes([2, 1, 1, 1, 1, 0, 0, 0],
                 [(1, 2, 500), (1, 3, 600), (1, 4, 700), (2, 3, 600), (2, 4, 800), (5, 6, 500), (5, 7, 700), (6, 7, 800)])
@@ -30,8 +30,8 @@ def document(cases):
     cases.match(T, PATTERN, [X], 600, 'refused 7 0')
     cases.match(T, PATTERN, HEADING, 0, 'refused 5 0')
     cases.match(T, PATTERN, HEADING, 1001, 'refused 5 0')
-    cases.match(T, PATTERN, HEADING, 600, 'refused 8 0', sets=19)
-    cases.match(T, PATTERN, HEADING, 600, 'match 600 700', sets=20)
+    cases.match(T, PATTERN, HEADING, 600, 'refused 8 0', sets=39)
+    cases.match(T, PATTERN, HEADING, 600, 'match 600 700', sets=40)
 
 
 # ---- tables
@@ -43,10 +43,16 @@ def wide_table():
     return table_bytes([1, 1] + [0] * 254, [(0, 1, 900)] + pairs)
 
 
+def widest_table():
+    """512 constants, of which those at the ends of the later words of a set are near each other."""
+    ends = [255, 256, 319, 320, 383, 384, 447, 448, 511]
+    return table_bytes([0] * MOST_SYMBOLS, [(a, b, a + b) for a in ends for b in ends if a < b])
+
+
 def largest_table():
-    """256 constants and 8,192 pairs."""
-    pairs = [(a, b, 1 + (7 * a + b) % 999) for a in range(256) for b in range(a + 1, 256)]
-    return table_bytes([0] * 256, pairs[:8192])
+    """512 constants and 8,192 pairs."""
+    pairs = [(a, b, 1 + (7 * a + b) % 999) for a in range(MOST_SYMBOLS) for b in range(a + 1, MOST_SYMBOLS)]
+    return table_bytes([0] * MOST_SYMBOLS, pairs[:MOST_PAIRS])
 
 
 # one for each reason that a table can be refused for
@@ -73,6 +79,11 @@ def tables(cases):
         cases.symbol_degree(wide, a, b, 'degree %d' % told)
     for a, b, place in (256, 256, 0), (256, 255, 0), (255, 256, 1):
         cases.symbol_degree(wide, a, b, 'refused 13 %d' % place)
+    widest = widest_table()
+    for a, b, told in (255, 511, 766), (511, 256, 767), (511, 511, 1000), (319, 320, 639), (510, 511, 0):
+        cases.symbol_degree(widest, a, b, 'degree %d' % told)
+    for a, b, place in (512, 512, 0), (512, 511, 0), (511, 512, 1):
+        cases.symbol_degree(widest, a, b, 'refused 13 %d' % place)
     largest = largest_table()
     last = reference.read_table(largest).pairs[-1]
     cases.symbol_degree(largest, last[1], last[0], 'degree %d' % last[2])
@@ -170,12 +181,13 @@ def nearest(cases):
 
 def rooms(cases):
     """Buffers that are too short, just long enough and longer; after every kind of answer."""
-    for spans, sets, told in ((127, 20, 'refused 8 0'), (128, 19, 'refused 8 0'), (128, 20, 'match 600 700'), (129, 20, 'match 600 700'),
-                              (128, 21, 'match 600 700'), (135, 4111, 'match 600 700'), (0, 20, 'refused 8 0'), (128, 0, 'refused 8 0'),
-                              (0, 0, 'refused 8 0'), (135, 19, 'refused 8 0'), (127, 4111, 'refused 8 0'), (64, 20, 'refused 8 0')):
+    for spans, sets, told in ((127, 40, 'refused 8 0'), (128, 39, 'refused 8 0'), (128, 40, 'match 600 700'), (129, 40, 'match 600 700'),
+                              (128, 41, 'match 600 700'), (135, 8207, 'match 600 700'), (0, 40, 'refused 8 0'), (128, 0, 'refused 8 0'),
+                              (0, 0, 'refused 8 0'), (135, 39, 'refused 8 0'), (127, 8207, 'refused 8 0'), (64, 40, 'refused 8 0'),
+                              (128, 20, 'refused 8 0')):
         cases.match(T, PATTERN, HEADING, 600, told, spans, sets)
-    for spans, sets in (128, 20), (135, 4111), (0, 0):
-        enough = sets >= 20
+    for spans, sets in (128, 40), (135, 8207), (0, 0):
+        enough = sets >= 40
         cases.match(T[:65], PATTERN, HEADING, 600, 'refused 1 0', spans, sets)
         cases.match(T, PATTERN, HEADING, 0, 'refused 5 0', spans, sets)
         cases.match(T, [5, 5], HEADING, 600, 'refused 6 1', spans, sets)
@@ -197,8 +209,8 @@ def order(cases):
         cases.match(T, [5, 5], [X], cut, 'refused 5 0', spans=0)
     cases.match(T, [5, 5], [5, X], 600, 'refused 6 1', spans=0)
     cases.match(T, [0, X, X], [5, X], 600, 'refused 7 1', spans=0)
-    cases.match(T, [1, 5], [0, 5, 5], 600, 'refused 8 0', sets=11)
-    cases.match(T, [1, 5], [0, 5, 5], 600, 'refused 9 0', sets=12)
+    cases.match(T, [1, 5], [0, 5, 5], 600, 'refused 8 0', sets=23)
+    cases.match(T, [1, 5], [0, 5, 5], 600, 'refused 9 0', sets=24)
 
 
 def clashes(cases):
@@ -250,6 +262,11 @@ def found(cases):
         for symbol in 2, 64, 128, 255:
             cases.match(wide, [X], [symbol], cut)
     cases.match(wide, [0, X], [1, 127], 600, 'match 655 900')
+    widest = widest_table()
+    for cut in 1, 575, 576, 639, 640, 766, 767, 768, 895, 896, 958, 959, 960, 1000:
+        for symbol in 0, 255, 256, 320, 448, 511:
+            cases.match(widest, [X], [symbol], cut)
+    cases.match(widest, [X], [512], 1, 'refused 7 0')
 
 
 def own_degrees(cases):
@@ -401,11 +418,11 @@ def many(cases):
                     [5 + i % 32 % 3 if node == 5 else node for i, node in enumerate(shape)], 800, 'match 800 1000')
     long = sized_term(1024)
     cases.match(T, [X], long, 500)
-    cases.match(T, [X], long, 1000, spans=135, sets=4111)
+    cases.match(T, [X], long, 1000, spans=135, sets=8207)
     cases.match(T, long, long, 1000, 'match 1000 1000')
     cases.match(T, long[:-1] + [X + 5], long, 700, 'match 700 1000')
     cases.match(T, long[:-1] + [6], long, 501, 'refused 9 1023')
-    cases.match(T, [X], long, 500, 'refused 8 0', sets=4095)
+    cases.match(T, [X], long, 500, 'refused 8 0', sets=8191)
     half = sized_term(511)
     cases.match(T, [1, 0, X, X], [1, 0] + half + half, 600)
     cases.match(T, [1, 0, X, X], [1, 0] + half + half[:-1] + [6], 600, 'match 700 700')
@@ -413,4 +430,68 @@ def many(cases):
     cases.match(T, [1, 0, X, X], [1, 0] + half + [0] + half[2:] + [5], 500)
 
 
-GROUPS = [document, tables, terms, subterms, nearest, rooms, order, clashes, formless, found, own_degrees, gathered, richer, same, many]
+# ---- the last symbols, and answers saved before there were so many
+
+def last_symbols(cases):
+    """Nodes 511 and 512 in tables of 512 symbols and of fewer."""
+    full = table_bytes([0] * 511 + [1], [(0, 510, 700), (255, 256, 800)])
+    less = table_bytes([0] * 510 + [1], [(0, 509, 700), (255, 256, 800)])
+    cases.match(full, [511, X], [511, 510], 700, 'match 700 1000')
+    cases.match(full, [511, X], [511, 510], 701, 'match 1000 1000')
+    cases.match(full, [511, 0], [511, 510], 700, 'match 700 700')
+    cases.match(full, [X], [511, 0], 1, 'match 700 1000')
+    cases.match(full, [512], [0], 1, 'refused 6 0')
+    cases.match(full, [511, 512], [0], 1, 'refused 6 1')
+    cases.match(full, [X], [512], 1, 'refused 7 0')
+    cases.match(full, [X], [511, 512], 1, 'refused 7 1')
+    cases.match(less, [X], [511], 1, 'refused 7 0')
+    cases.match(less, [511], [0], 1, 'refused 6 0')
+    cases.match(less, [X], [510, 0], 1, 'match 700 1000')
+    cases.degree(full, [511, 510], [511, 0], 'degree 700')
+    cases.degree(full, [511, 512], [511, 0], 'refused 6 1')
+    cases.degree(less, [510, 0], [511, 0], 'refused 7 0')
+    cases.subterm(full, [511, 510], 1, 'part 1 510')
+    cases.subterm(full, [511, 512], 0, 'part 0')
+    cases.nearer(full, [510], [1], [0], 'nearer 1 0')
+    cases.nearer(full, [512], [1], [0], 'nearer 0')
+    for sets, told in (15, 'refused 8 0'), (16, 'match 700 1000'):
+        cases.match(full, [511, X], [511, 510], 700, told, sets=sets)
+
+
+def saved_words(match, positions):
+    """The sets as they were packed when a set had four words: each position's first four of today."""
+    today = match.words(WORDS * positions)
+    assert not any(word for at in range(0, len(today), WORDS) for word in today[at + SAVED:at + WORDS])
+    return [word for at in range(0, len(today), WORDS) for word in today[at:at + SAVED]]
+
+
+def saved(cases):
+    listing = [24, 0, 0, 0, 128, 0, 0, 0] + [0] * 12
+    cases.widen(listing, 40, 'written 40 output 0:24 8:128 40-8207:9999')
+    cases.widen(listing, 43, 'written 40 output 0:24 8:128 40-8207:9999')
+    for room in 39, 20, 0:
+        cases.widen(listing, room, 'refused 8 0 output 0-8207:9999')
+    for count in 1, 2, 3, 5, 6, 7, 17, 18, 19, 21:
+        for room in 2 * count, 8200, 2 * count - 1:
+            cases.widen([7] * count, room, 'refused 8 0 output 0-8207:9999')
+    for room in 0, 1, 8:
+        cases.widen([], room, 'written 0 output 0-8207:9999')
+    top = (1 << 64) - 1
+    cases.widen([top] * 4, 8, 'written 8 output 0-3:%d 8-8207:9999' % top)
+    cases.widen([top] * 8, 17, 'written 16 output 0-3:%d 8-11:%d 16-8207:9999' % (top, top))
+    cases.widen([1, 1 << 63, 3, 1 << 32], 9, 'written 8 output 0:1 1:%d 2:3 3:%d 8-8207:9999' % (1 << 63, 1 << 32))
+    cases.widen(list(range(1, 41)), 80)
+    cases.widen([5] * 4096, 8192)
+    cases.widen([5] * 4096, 8191, 'refused 8 0 output 0-8207:9999')
+    cases.widen([5] * 4097, 8200, 'refused 8 0 output 0-8207:9999')
+    # a saved answer, converted, is today's
+    for table, pattern, heading, cut in ((T, PATTERN, HEADING, 600), (T, PATTERN, HEADING, 500), (wide_table(), [0, X], [1, 127], 600),
+                                         (wide_table(), [X], [255], 1), (T, [X], sized_term(200), 500)):
+        found = reference.match(table, pattern, heading, cut)
+        words, today = saved_words(found, len(heading)), found.words(WORDS * len(heading))
+        assert reference.widen(words, len(today)) == today
+        cases.widen(words, len(today))
+        cases.match(table, pattern, heading, cut)
+
+
+GROUPS = [document, tables, terms, subterms, nearest, rooms, order, clashes, formless, found, own_degrees, gathered, richer, same, many, last_symbols, saved]

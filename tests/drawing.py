@@ -25,7 +25,7 @@ class Draw:
 def draw_table(draw):
     """A table of a few symbols; one in six has many, of which the terms use a few. The first of those is a constant, the last is none."""
     if draw.chance(17):
-        size = draw.one([63, 64, 65, 127, 128, 129, 200, 256])
+        size = draw.one([63, 64, 65, 127, 128, 129, 200, 256, 257, 319, 320, 511, 512])
         used = sorted({draw.below(size) for _ in range(10)} | {size - 1})
     else:
         used = list(range(3 + draw.below(8)))
@@ -62,7 +62,7 @@ def damaged(draw, nodes):
     elif how == 1:
         nodes.insert(at, draw.below(4))
     elif how == 2:
-        nodes[at:at + 1] = [draw.one([X, 32767, 32799, 32800, 65535, 256, 300])]
+        nodes[at:at + 1] = [draw.one([X, 32767, 32799, 32800, 65535, 256, 300, 512])]
     else:
         nodes = nodes[:at]
     return nodes

@@ -123,17 +123,17 @@ def leafy(eights, sevens, leaves):
 
 def star(arities, rays, degrees):
     """The last symbol is near all of these, and they to no other."""
-    return table_bytes(arities, [(s, 255, degrees[s % len(degrees)]) for s in rays])
+    return table_bytes(arities, [(s, len(arities) - 1, degrees[s % len(degrees)]) for s in rays])
 
 
 def longest(asked):
-    """The longest answers: nearly all of 1,024 nodes have arity 1, and each of their positions has 254 symbols. Seventeen constants below
+    """The longest answers: nearly all of 1,024 nodes have arity 1, and each of their positions has 510 symbols. Seventeen constants below
     them, each with a variable to print, and four symbols above are the fewest that the depth allows."""
     def over(parts):
         return [1] + sum(parts[:2], []) + [node for i in (2, 7, 12) for node in [1] + sum(parts[i:i + 5], [])]
-    heading = over([[255] * ones + [0] for ones in [62] * 2 + [61] * 14 + [25]])
+    heading = over([[511] * ones + [0] for ones in [62] * 2 + [61] * 14 + [25]])
     pattern = over([[X + v] for v in range(15, 32)])
-    asked.match(star([0, 5] + [1] * 254, range(2, 255), [999]), pattern, heading, 999, 'match 999 1000')
+    asked.match(star([0, 5] + [1] * 510, range(2, 511), [999]), pattern, heading, 999, 'match 999 1000')
     leaves = star([8, 7] + [0] * 254, range(2, 255), range(1, 254))
     for cut in 1, 200, 240, 253, 254:
         asked.match(leaves, [1] + [X + 31] * 7, [1] + [255] * 7, cut)
@@ -150,7 +150,7 @@ def greatest(asked):
 
 
 def wide(asked):
-    """256 symbols, in sets of every size, and 8,192 pairs."""
+    """256 and 512 symbols, in sets of every size, and 8,192 pairs."""
     hub = table_bytes([0] * 256, [(0, s, 1 + 3 * s) for s in range(1, 256)])
     for cut in 1, 4, 5, 189, 190, 192, 193, 195, 196, 382, 385, 388, 574, 577, 580, 763, 766, 767, 1000:
         asked.match(hub, [X + 7], [0], cut)
@@ -158,8 +158,15 @@ def wide(asked):
     for s in 1, 62, 63, 64, 65, 127, 128, 191, 192, 254, 255:
         asked.match(hub, [s], [0], 1 + 3 * s, 'match %d %d' % (1 + 3 * s, 1 + 3 * s))
         asked.match(hub, [0], [s], 2 + 3 * s, 'refused 9 0')
+    hub = table_bytes([0] * 512, [(0, s, 1 + s) for s in range(1, 512)])
+    for cut in 1, 2, 3, 64, 65, 256, 257, 258, 320, 321, 449, 511, 512, 513:
+        asked.match(hub, [X + 7], [0], cut)
+        asked.match(hub, [X + 7], [cut % 512], cut)
+    for s in 255, 256, 257, 319, 320, 510, 511:
+        asked.match(hub, [s], [0], 1 + s, 'match %d %d' % (1 + s, 1 + s))
+        asked.match(hub, [0], [s], 2 + s, 'refused 9 0')
     most = largest_table()
-    for heading, cut in (0, 1), (31, 1000), (255, 990):
+    for heading, cut in (0, 1), (31, 1000), (255, 990), (511, 990):
         asked.match(most, [X], [heading], cut)
 
 

@@ -83,19 +83,19 @@ def layouts(asked):
     at_tables(asked, [(bytes(length), one if length < 10 else two) for length in range(12)])
     at_tables(asked, [(with_number(T, at, number(T, at) + off), one) for at in (4, 6, 8) for off in (1, -1, 2, 6, -6, 256, -256, 32768)])
     at_tables(asked, [(with_number(T[:60], 8, 60), one), (with_number(T + bytes(6), 8, 72), one), (with_byte(T, 12, 9)[:60], one)])
-    at_tables(asked, [(with_number(T, 0, symbols), one) for symbols in (1, 7, 9, 256)])
+    at_tables(asked, [(with_number(T, 0, symbols), one) for symbols in (1, 7, 9, 256, 257, 264, 512)])
     at_tables(asked, [(with_number(T, 2, pairs), one) for pairs in (0, 7, 9, 256, 8192)])
-    for symbols in 0, 257, 264, 512, 32768, 65535:
+    for symbols in 0, 513, 520, 768, 32768, 65535:
         at_tables(asked, [(with_number(T, 0, symbols), two), (with_number(with_byte(T, 4, 11), 0, symbols), two)])
     for pairs in 8193, 8200, 10923, 16392, 32776, 65535:
         at_tables(asked, [(with_number(T, 2, pairs), two), (with_number(T[:30], 2, pairs), two)])
     at_tables(asked, [(headed((1, 10923, 10, 11, 13), bytes(3)), two), (headed((1, 0, 0, 0, 0)), one), (headed((1, 0, 10, 11, 10)), one),
-                      (headed((0, 0, 10, 10, 10)), two), (headed((257, 0, 10, 267, 267), bytes(257)), two)])
+                      (headed((0, 0, 10, 10, 10)), two), (headed((513, 0, 10, 523, 523), bytes(513)), two)])
 
 
 def arity_places(asked):
     table = read_table(T)
-    for size in 1, 8, 64, 256:
+    for size in 1, 8, 64, 256, 512:
         for symbol in {0, 1 % size, size // 2, size - 2, size - 1} if size > 1 else {0}:
             for arity in 9, 16, 128, 255:
                 at_tables(asked, [(table_bytes([8] * symbol + [arity] * (size - symbol), []), 'refused 3 %d' % symbol),
@@ -138,7 +138,7 @@ def pair_places(asked):
             asked.match(table_bytes([0] * 256, row[:k] + [fault] + row[k + 1:]), [X], [k], 500, 'refused 4 %d' % k)
     most = largest_table()
     for k in 0, 4096, 8191:
-        asked.match(with_number(most, 10 + 256 + 6 * k + 4, 1000), [X], [0], 500, 'refused 4 %d' % k)
+        asked.match(with_number(most, 10 + 512 + 6 * k + 4, 1000), [X], [0], 500, 'refused 4 %d' % k)
     asked.match(most[:-1], [X], [0], 500, 'refused 1 0')
 
 

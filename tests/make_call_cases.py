@@ -11,7 +11,7 @@ import stored
 from call_cases import GUARD, SETS, SPANS, Cases, part_text, runs
 from chosen_cases import GROUPS
 from drawing import Draw, damaged, damaged_table, draw_match, draw_table, stray
-from reference import match, table_bytes
+from reference import MOST_SYMBOLS, WORDS, match, table_bytes
 from table_cases import by_hand
 
 
@@ -27,8 +27,8 @@ def published_match(table, vector):
     for v in answer['order']:
         spans[4 * v:4 * v + 4] = answer['spans'][str(v)] + list(own[v])
         for symbols in answer['sets'][str(v)]:
-            sets += [sum(1 << s - at for s in symbols if at <= s < at + 64) for at in range(0, 256, 64)]
-    lent = 4 * len(vector['heading'])
+            sets += [sum(1 << s - at for s in symbols if at <= s < at + 64) for at in range(0, MOST_SYMBOLS, 64)]
+    lent = WORDS * len(vector['heading'])
     sets += [0] * (lent - len(sets)) + [GUARD] * (SETS - lent)
     return 'match %d %d spans%s sets%s' % (answer['lowest'], answer['highest'], runs(spans), runs(sets))
 
@@ -74,7 +74,7 @@ def drawn(cases, seed):
         cases.nearer(data, heading, one, two)
     else:
         cut = draw.one([1, 1, 1, 2, 250, 400, 500, 600, 700, 1000])
-        sets = 4 * len(heading) + draw.one([-1] + 20 * [0] + [1, 5, 100])
+        sets = WORDS * len(heading) + draw.one([-1] + 20 * [0] + [1, 5, 100])
         cases.match(data, pattern, heading, cut, spans=128 + draw.one([0, 0, 1, 7]), sets=max(sets, 0))
 
 

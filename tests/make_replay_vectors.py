@@ -22,8 +22,8 @@ from replay import framed, replies
 SEED, SOUND, DAMAGED, ANY = 5, 2200, 700, 100
 
 # how often each answer is given; main stops if it is otherwise
-GIVEN = {'match': 2202, 'refused 1': 288, 'refused 2': 124, 'refused 3': 190, 'refused 4': 391, 'refused 5': 62, 'refused 6': 412,
-         'refused 7': 393, 'refused 9': 758, 'refused 10': 503, 'refused 12': 542, 'cut off': 1}
+GIVEN = {'match': 2298, 'refused 1': 296, 'refused 2': 122, 'refused 3': 225, 'refused 4': 390, 'refused 5': 62, 'refused 6': 422,
+         'refused 7': 415, 'refused 9': 775, 'refused 10': 509, 'refused 12': 533, 'cut off': 1}
 
 
 def without_own_degrees(answer):

@@ -26,4 +26,4 @@ class Questions:
     def no_question(self, *case):
         """The program cannot be asked this."""
 
-    symbol_degree = degree = subterm = nearer = no_question
+    symbol_degree = degree = subterm = nearer = widen = no_question

@@ -5,6 +5,10 @@ test. Slow on purpose. A refusal is the exception Refused with its number and pl
 """
 
 
+# the most symbols and pairs of a table, and the words of a set, 64 symbols to each
+MOST_SYMBOLS, MOST_PAIRS, WORDS = 512, 8192, 8
+
+
 class Refused(Exception):
     def __init__(self, number, place):
         super().__init__(number, place)
@@ -30,7 +34,7 @@ def number(data, at):
 
 
 def check_counts(symbols, pairs):
-    if not 1 <= symbols <= 256 or not 0 <= pairs <= 8192:
+    if not 1 <= symbols <= MOST_SYMBOLS or not 0 <= pairs <= MOST_PAIRS:
         raise Refused(2, 0)
 
 
@@ -214,7 +218,7 @@ class Match:
             for symbols in positions:
                 for s in symbols:
                     out[at + s // 64] |= 1 << s % 64
-                at += 4
+                at += WORDS
         return out
 
 
@@ -263,8 +267,8 @@ def match(data, pattern, heading, cut, spans_room=128, sets_room=None):
     p = read_term(table, pattern, True, 6)
     h = read_term(table, heading, False, 7)
     if sets_room is None:
-        sets_room = 4 * len(heading)
-    if spans_room < 128 or sets_room < 4 * len(heading):
+        sets_room = WORDS * len(heading)
+    if spans_room < 128 or sets_room < WORDS * len(heading):
         raise Refused(8, 0)
     symbols, variables = facing(table, p, h)
     for index, f, g in symbols:
@@ -318,3 +322,16 @@ def ask(asked):
         return answer_text(match(asked[at_table:], nodes[:m], nodes[m:], cut))
     except Refused as why:
         return 'refused %d %d\n' % (why.number, why.place)
+
+
+# ---- saved answers
+
+# the words of a set when it had room for 256 symbols
+SAVED = 4
+
+
+def widen(words, room):
+    """The sets of a saved answer as sets of today, for an output with so much room."""
+    if len(words) % SAVED or room < 2 * len(words):
+        raise Refused(8, 0)
+    return [word for at in range(0, len(words), SAVED) for word in words[at:at + SAVED] + [0] * (WORDS - SAVED)]

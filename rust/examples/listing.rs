@@ -25,7 +25,7 @@ fn main() -> Result<(), Refusal> {
     println!("x0 {} {} {}", spans[1], spans[2], spans[3]);
     for set in sets.chunks(WORDS).take(spans[1].into()) {
         let stands = |k: &usize| set[k / 64] >> (k % 64) & 1 == 1;
-        let symbols: Vec<_> = (0..256).filter(stands).map(|k| k.to_string()).collect();
+        let symbols: Vec<_> = (0..64 * WORDS).filter(stands).map(|k| k.to_string()).collect();
         println!("{}", symbols.join(" "));
     }
     Ok(())

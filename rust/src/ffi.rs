@@ -63,4 +63,11 @@ extern "C" {
         out_len: usize,
         total: *mut usize,
     ) -> u32;
+    pub fn shx_widen(
+        words: *const u64,
+        words_len: usize,
+        out: *mut u64,
+        out_len: usize,
+        written: *mut usize,
+    ) -> u32;
 }

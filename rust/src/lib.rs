@@ -20,6 +20,9 @@ pub type Answer<T> = Result<T, Refusal>;
 /// The type of `match_heading` in both modules.
 pub type MatchHeading = fn(&[u8], &[u16], &[u16], u16, &mut [u16], &mut [u64]) -> Answer<Degrees>;
 
+/// The type of `widen` in both modules.
+pub type Widen = fn(&[u64], &mut [u64]) -> Answer<usize>;
+
 /// The type of `write_table` in both modules.
 pub type WriteTable = fn(&[u8], &[Pair], &mut [u8]) -> Answer<usize>;
 
@@ -50,4 +53,6 @@ pub const SPAN: usize = 4;
 /// The length that the spans of a match must have at least.
 pub const SPANS: usize = SPAN * VARIABLES;
 /// How many words of a match's sets each node of the heading asks for.
-pub const WORDS: usize = 4;
+pub const WORDS: usize = 8;
+/// How many it asked for while a table had up to 256 symbols.
+pub const SAVED_WORDS: usize = 4;

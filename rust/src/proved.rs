@@ -138,3 +138,11 @@ pub fn write_table(arities: &[u8], pairs: &[Pair], out: &mut [u8]) -> Answer<usi
     })?;
     Ok(total)
 }
+
+/// Makes the sets of a saved answer, of [`crate::SAVED_WORDS`] words each, sets of today, and returns how many words were written; those behind
+/// them stay. Refusal 8, which writes nothing.
+pub fn widen(words: &[u64], out: &mut [u64]) -> Answer<usize> {
+    let mut written = 0;
+    accepted(unsafe { ffi::shx_widen(words.as_ptr(), words.len(), out.as_mut_ptr(), out.len(), &mut written) })?;
+    Ok(written)
+}

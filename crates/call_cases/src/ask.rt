@@ -1,6 +1,7 @@
-// The calls, a kind of case for each: here those that take a table and no term.
+// The calls, a kind of case for each: here those that take no term.
 use crate::input::Header;
 use crate::on_terms;
+use crate::saves::ask_widen;
 use crate::say;
 use crate::writes::ask_write;
 use tables::arity_of;
@@ -17,6 +18,7 @@ pub fn ask(header: Header, table: &[u8], first: &[u16]) {
         7 => say::arity(arity_of(table, asked.x)),
         8 => say::pair(pair_of(table, asked.x as usize + asked.y as usize)),
         9 => ask_write(asked.x, table, first),
+        10 => ask_widen(asked.x, first),
         _ => on_terms::ask(header, table, first),
     }
 }

@@ -7,14 +7,15 @@ use crate::input::least;
 use crate::say;
 use matches::match_heading;
 use matching::search::Outcome;
+use sets::SymbolSet;
 
 // Above every number of a span.
-const GUARD: u16 = 9999;
+pub const GUARD: u16 = 9999;
 
 // More than any case lends.
 const SPANS: usize = 136;
 
-const SETS: usize = 4112;
+pub const SETS: usize = 1026 * SymbolSet::WORDS;
 
 pub fn ask_match(asked: Asked, table: &[u8], pattern: &[u16], heading: &[u16]) {
     let mut spans = [GUARD; SPANS];
@@ -57,18 +58,18 @@ fn say_answer(answer: Outcome) {
 
 fn say_spans(spans: &[u16]) {
     let mut words = [0u64; SPANS];
-    widen(spans, &mut words);
+    as_words(spans, &mut words);
     say_runs(b" spans", &words);
 }
 
-fn widen(numbers: &[u16], words: &mut [u64]) {
+fn as_words(numbers: &[u16], words: &mut [u64]) {
     for i in 0..least(numbers.len(), words.len()) {
         words[i] = say::wide(numbers[i]);
     }
 }
 
 // A list by its runs of equal numbers.
-fn say_runs(what: &[u8], values: &[u64]) {
+pub fn say_runs(what: &[u8], values: &[u64]) {
     say::text(what);
     let mut first = 0;
     for i in 0..values.len() {

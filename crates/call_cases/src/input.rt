@@ -1,5 +1,5 @@
 // The cases as standard input has them. A case is a header of nine numbers, a list of bytes (the table, or the arities to be written) and three
-// lists of numbers (nodes, or the pairs to be written). Numbers are two bytes each, low byte first.
+// lists of numbers (nodes, the pairs to be written, or words, four numbers to each). Numbers are two bytes each, low byte first.
 ghost use Prim.Native.Nat.{_≤_};
 ghost use Rattle.io.specs.Counts.{Counts};
 use table::number::number_at;

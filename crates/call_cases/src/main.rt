@@ -4,6 +4,7 @@ mod ask;
 mod buffers;
 mod input;
 mod on_terms;
+mod saves;
 mod say;
 mod writes;
 

@@ -14,6 +14,7 @@ use Rattle.capi.specs.Tables.{ShxTable, ShxSymbolDegree, ShxArity, ShxPa
 use Rattle.capi.specs.Terms.{ShxHeadingDegree, ShxSubterm, ShxNearer}
 use Rattle.capi.specs.Matching.{ShxMatch}
 use Rattle.capi.specs.Writing.{ShxWriteTable}
+use Rattle.capi.specs.Saving.{ShxWiden}
 
 -- THEOREM: any two results that a promise allows are equal, and so is what they leave
 module _ (table : List ℕ) where
@@ -55,6 +56,11 @@ pub one-write-table : (arities : List ℕ) (records : List Pair) (output : List 
     → ShxWriteTable arities records output total r u d → ShxWriteTable arities records output total s v e → (r ≡ s) × (u ≡ v) × (d ≡ e)
 one-write-table arities records output total r s u v d e p q =
     (p .answers ∙ sym (q .answers), p .output-later ∙ sym (q .output-later), p .total-later ∙ sym (q .total-later))
+
+pub one-widen : (words output : List ℕ) (written r s : ℕ) (u v : List ℕ) (d e : ℕ)
+    → ShxWiden words output written r u d → ShxWiden words output written s v e → (r ≡ s) × (u ≡ v) × (d ≡ e)
+one-widen words output written r s u v d e p q =
+    (p .answers ∙ sym (q .answers), p .output-later ∙ sym (q .output-later), p .written-later ∙ sym (q .written-later))
 
 -- ---- a code tells the refusal
 

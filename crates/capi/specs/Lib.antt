@@ -4,3 +4,4 @@ pub mod Tables
 pub mod Terms
 pub mod Matching
 pub mod Writing
+pub mod Saving

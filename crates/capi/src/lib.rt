@@ -2,6 +2,7 @@
 // 16, or 0. What else it gives goes out through lent memory.
 pub mod answer;
 pub mod files;
+pub mod saving;
 pub mod search;
 pub mod term;
 pub mod writing;

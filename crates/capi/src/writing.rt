@@ -8,8 +8,8 @@ use records::write_records;
 use table::read::Pair;
 use writer::Writing;
 
-// The file's length noted, or a refusal's number.
-fn note(writing: Writing, total: &mut usize) -> u32
+// How much was written noted, or a refusal's number.
+pub fn note(writing: Writing, total: &mut usize) -> u32
     ensures { λ r. ⌜ (r ≡ coded (said writing)) × (now (total .exit) ≡ laterNumber (said writing) (now (total .entry))) ⌝ }
 {
     match writing {

@@ -11,10 +11,12 @@ use lib.ListN.{length}
 use Rattle.theory.specs.Tree.{Pattern, var, sym, encₚ}
 use Rattle.meaning.specs.Refusals.{Refusal, refusal, first}
 use Rattle.meaning.specs.Calls.{Answer, refused, isTable, symbolDegree, headingDegree, part, subtermRows, subterm, Degrees, lowestIn, highestIn, matched, written, arityBack, pairBack}
+use Rattle.meaning.specs.Saved.{widenedCount}
 use Rattle.meaning.proofs.First.{first-given, exactly, order}
 use Rattle.meaning.proofs.Parts.{subterms, nearest}
 use Rattle.meaning.proofs.Lengths.{leaves, lengths}
 use Rattle.meaning.proofs.RoundTrip.{round-trip}
+use Rattle.meaning.proofs.Saved.{widens}
 use Rattle.demands.specs.Demand1.{Refuses, Demand1}
 use Rattle.demands.proofs.Meant.{meant}
 
@@ -47,7 +49,7 @@ no-degrees a n place e = (ap lowestIn e, ap highestIn e)
 
 -- THEOREM
 pub demand1 : Demand1 meant
-unfolding isTable symbolDegree headingDegree matched written arityBack pairBack
+unfolding isTable symbolDegree headingDegree matched written arityBack pairBack widenedCount
 demand1 =
     record {
       is-table = λ table. exactly _ _;
@@ -57,11 +59,13 @@ demand1 =
       write-table = λ arities pairs output. exactly _ _;
       arity-of = λ table symbol. exactly _ _;
       pair-of = λ table index. exactly _ _;
+      widen = λ words output. exactly _ _;
       subterm = empty-part;
       nearer = nearest .neither-if;
       order = order;
       no-degrees = λ table pattern heading cut spans sets. no-degrees _;
       match-leaves = leaves;
       writer-leaves = λ arities pairs output. round-trip .read-written arities pairs output .refusal-leaves;
+      widen-leaves = λ words output. widens words output .refusal-leaves;
       lengths = lengths;
     }

@@ -18,6 +18,8 @@ use Rattle.meaning.proofs.Degrees.{symbol-degrees}
 use Rattle.meaning.proofs.PairsKept.{made-richer}
 use Rattle.meaning.proofs.Back.{reads-back}
 use Rattle.meaning.proofs.RoundTrip.{round-trip}
+use Rattle.meaning.proofs.Saved.{widens}
+use Rattle.meaning.proofs.AsToday.{as-today}
 use Rattle.meaning.proofs.Parts.{terms, subterms, nearest}
 use Rattle.meaning.proofs.Matched.{Ready, ready, demand2 as of-match}
 use Rattle.meaning.proofs.Reasons.{reasons}
@@ -103,4 +105,6 @@ further =
       stays-answered = λ table₁ table₂ pattern heading cut spans sets more e₂.
           stays-answered table₁ table₂ pattern heading cut spans sets _ _ more (accepted table₂ e₂)
           (match-stated table₁ pattern heading cut spans sets) (match-stated table₂ pattern heading cut spans sets);
+      widens = widens;
+      as-today = as-today;
     }

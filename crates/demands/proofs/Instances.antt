@@ -1,7 +1,7 @@
 -- No statement rests on a hypothesis that cannot be met: here each is met, by table T of the examples and what the listing asks of it, and by
 -- computing.
 use mathlib.Core.Path.{_≡_, refl}
-use mathlib.Core.List.{List, [], _∷_}
+use mathlib.Core.List.{List, [], _∷_, _++_}
 use mathlib.Core.Bool.{true, false}
 use mathlib.Core.Option.{none}
 use Prim.Native.Nat.{ℕ, _+_, _*_, _≤_, _<_}
@@ -14,7 +14,7 @@ use Rattle.theory.specs.Table.{Richer, degree}
 use Rattle.theory.specs.Pairs.{pair, isPair}
 use Rattle.theory.specs.Read.{walk, several}
 use Rattle.theory.specs.Decode.{patternOf, termOf, parse, parseRow}
-use Rattle.meaning.specs.Limits.{variableCount, spanWidth}
+use Rattle.meaning.specs.Limits.{setWords, variableCount, spanWidth}
 use Rattle.meaning.specs.File.{symbolCount, pairCount, aritiesIn, pairsIn, tableIn, fileOf}
 use Rattle.meaning.specs.Refusals.{first, Given, row1-short, row1-offsets, row2, row3, row4, row5, row6, row7, row8, row8-output, row9, row10, tableRows, SoundFile}
 use Rattle.meaning.specs.Packing.{packedCount, packedSpans}
@@ -28,11 +28,13 @@ use Rattle.meaning.proofs.Bits.{getD-zeros}
 use Rattle.meaning.proofs.RoundTrip.{round-trip}
 use Rattle.meaning.proofs.Examples.{T, arities, pairs, p, h}
 use Rattle.meaning.proofs.Wrong.{P, H, writes-P, writes-H}
+use Rattle.meaning.specs.Saved.{savedRoom, leftThen}
 use Rattle.demands.proofs.WrongRicher.{apart, near, added}
+use Rattle.demands.proofs.Lent.{noSpans, noSets}
 
 -- what the listing asks, at a cut, of buffers that have just the room
 abbrev asked : ℕ → Type 0
-asked cut = Accepted T p h cut (zeros 128) (zeros 20)
+asked cut = Accepted T p h cut noSpans (noSets 5)
 
 -- Demand 1: a row that refuses, with none before it
 pub met1 : Given (tableRows []) 1 0 × Given (subtermRows [] []) 1 0 × Given (nearerRows [] [] [] []) 1 0
@@ -41,7 +43,7 @@ met1 = (first-given (tableRows []) 1 0 refl, first-given (subtermRows [] []) 1 0
 
 -- Demand 2: two headings and a match that are not refused; at 701 there is no match, at 500 there is one
 pub met2 : (first (degreeRows T (1 ∷ 5 ∷ []) (4 ∷ 7 ∷ [])) ≡ none) × asked 500 × asked 701
-    × (matched T p h 701 (zeros 128) (zeros 20) ≡ refused 10 0) × (matched T p h 500 (zeros 128) (zeros 20) ≡ gives (degrees 500 700))
+    × (matched T p h 701 noSpans (noSets 5) ≡ refused 10 0) × (matched T p h 500 noSpans (noSets 5) ≡ gives (degrees 500 700))
 unfolding
     degreeRows matched matchRows inputRows searchRows facesIn packedCount tableRows row1-short row1-offsets row2 row3 row4 row5 row6 row7 row8 row9 row10 tableIn aritiesIn pairsIn
     patternOf termOf parse parseRow walk several
@@ -49,7 +51,7 @@ met2 = (refl, refl, refl, refl, refl)
 
 -- Demand 3: two cuts, with neither call refused for its input or its room; the second answers, and the first's highest degree reaches it
 pub met3 : (500 ≤ 600) × asked 500 × asked 600
-    × (matched T p h 600 (zeros 128) (zeros 20) ≡ gives (degrees 600 700)) × (matched T p h 500 (zeros 128) (zeros 20) ≡ gives (degrees 500 700)) × (600 ≤ 700)
+    × (matched T p h 600 noSpans (noSets 5) ≡ gives (degrees 600 700)) × (matched T p h 500 noSpans (noSets 5) ≡ gives (degrees 500 700)) × (600 ≤ 700)
 unfolding
     matched matchRows inputRows searchRows facesIn packedCount tableRows row1-short row1-offsets row2 row3 row4 row5 row6 row7 row8 row9 row10 tableIn aritiesIn pairsIn
     patternOf termOf parse parseRow walk several
@@ -96,23 +98,23 @@ met-headings = (refl, refl, refl, lit< tt, refl, refl, refl)
 
 -- Further, the match: the trees that the two lists write, a variable that stands in the pattern and one that does not; and a clash
 pub met-match : WritesPattern (tableIn T) p P × WritesTerm (tableIn T) h H × (stands 0 P ≡ true) × (stands 31 P ≡ false) × (31 < variableCount)
-    × (matched T (1 ∷ 32768 ∷ []) (2 ∷ 6 ∷ []) 501 (zeros 128) (zeros 8) ≡ refused 9 0)
+    × (matched T (1 ∷ 32768 ∷ []) (2 ∷ 6 ∷ []) 501 noSpans (noSets 2) ≡ refused 9 0)
 unfolding
     matched matchRows inputRows searchRows facesIn packedCount tableRows row1-short row1-offsets row2 row3 row4 row5 row6 row7 row8 row9 row10 tableIn aritiesIn pairsIn
     patternOf termOf parse parseRow walk several
 met-match = (writes-P, writes-H, refl, refl, lit< tt, refl)
 
 -- .. and a pattern without variables, of which no position is any variable's
-pub met-ground : ((v : ℕ) → stands v (sym 5 ∅ₚ) ≡ false) × (matched T (5 ∷ []) (7 ∷ []) 700 (zeros 128) (zeros 4) ≡ gives (degrees 700 700))
-    × ((v position : ℕ) → InSpan (laterSpans T (5 ∷ []) (7 ∷ []) 700 (zeros 128) (zeros 4)) v position → ⊥)
+pub met-ground : ((v : ℕ) → stands v (sym 5 ∅ₚ) ≡ false) × (matched T (5 ∷ []) (7 ∷ []) 700 noSpans (noSets 1) ≡ gives (degrees 700 700))
+    × ((v position : ℕ) → InSpan (laterSpans T (5 ∷ []) (7 ∷ []) 700 noSpans (noSets 1)) v position → ⊥)
 unfolding
     matched laterSpans matchRows inputRows searchRows facesIn packedCount packedSpans tableRows row1-short row1-offsets row2 row3 row4 row5 row6 row7 row8 row9 row10 tableIn aritiesIn
     pairsIn patternOf termOf parse parseRow walk several
-met-ground = ((λ v. refl), refl, λ v position i. omega (arith, i .1, getD-zeros 128 (spanWidth * v), getD-zeros 128 (spanWidth * v + 1)))
+met-ground = ((λ v. refl), refl, λ v position i. omega (arith, i .1, getD-zeros (spanWidth * variableCount) (spanWidth * v), getD-zeros (spanWidth * variableCount) (spanWidth * v + 1)))
 
 -- .. and at cut 1000 a pattern without variables with its equal, and with another heading; and a match with a variable that is answered
-pub met-top : NoVariable (5 ∷ []) × Accepted T (5 ∷ []) (5 ∷ []) 1000 (zeros 128) (zeros 4) × Accepted T (5 ∷ []) (7 ∷ []) 1000 (zeros 128) (zeros 4)
-    × (matched T (1 ∷ 32768 ∷ []) (1 ∷ 5 ∷ []) 1000 (zeros 128) (zeros 8) ≡ gives (degrees 1000 1000))
+pub met-top : NoVariable (5 ∷ []) × Accepted T (5 ∷ []) (5 ∷ []) 1000 noSpans (noSets 1) × Accepted T (5 ∷ []) (7 ∷ []) 1000 noSpans (noSets 1)
+    × (matched T (1 ∷ 32768 ∷ []) (1 ∷ 5 ∷ []) 1000 noSpans (noSets 2) ≡ gives (degrees 1000 1000))
 unfolding
     matched matchRows inputRows searchRows facesIn packedCount tableRows row1-short row1-offsets row2 row3 row4 row5 row6 row7 row8 row9 row10 tableIn aritiesIn pairsIn
     patternOf termOf parse parseRow walk several
@@ -120,6 +122,14 @@ met-top = ((lit< tt, tt), refl, refl, refl)
 
 -- .. and two tables, the second richer, asked the same
 pub met-richer : Richer (tableIn apart) (tableIn (near 5)) × (isTable apart ≡ gives aye) × (isTable (near 5) ≡ gives aye)
-    × Accepted apart (32768 ∷ []) (0 ∷ []) 1 (zeros 128) (zeros 4) × Accepted (near 5) (32768 ∷ []) (0 ∷ []) 1 (zeros 128) (zeros 4)
+    × Accepted apart (32768 ∷ []) (0 ∷ []) 1 noSpans (noSets 1) × Accepted (near 5) (32768 ∷ []) (0 ∷ []) 1 noSpans (noSets 1)
 unfolding isTable inputRows tableRows row1-short row1-offsets row2 row3 row4 row5 row6 row7 row8 tableIn aritiesIn pairsIn walk several
 met-richer = (added, refl, refl, refl, refl)
+
+-- .. and a saved answer: the listing's at 600, in sets for its five nodes, as they were left when a set had four words
+pub met-saved : (tableIn T .size ≤ savedRoom) × (matched T p h 600 noSpans (noSets 5) ≡ gives (degrees 600 700)) × (length (noSets 5) ≡ setWords * 5)
+    × (leftThen (tableIn T) 600 (facesIn T p h) 5 ≡ (24 ∷ 0 ∷ 0 ∷ 0 ∷ 128 ∷ []) ++ zeros 15)
+unfolding
+    leftThen matched matchRows inputRows searchRows facesIn packedCount tableRows row1-short row1-offsets row2 row3 row4 row5 row6 row7 row8 row9 row10 tableIn aritiesIn pairsIn
+    patternOf termOf parse parseRow walk several
+met-saved = (omega arith, refl, refl, refl)

@@ -14,6 +14,7 @@ pub mod Keeps
 pub mod Public
 pub mod Unique
 -- every hypothesis can be met
+pub mod Lent
 pub mod Instances
 -- wrong programs, and the statement at which each fails
 pub mod Wrong

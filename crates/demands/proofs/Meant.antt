@@ -5,6 +5,7 @@ use mathlib.Core.List.{List}
 use Prim.Native.Nat.{ℕ}
 use Rattle.meaning.specs.Calls.{isTable, symbolDegree, headingDegree, subterm, nearer, Matched, matchCall, arityBack, pairBack}
 use Rattle.meaning.specs.Tables.{writeCall}
+use Rattle.meaning.specs.Saved.{widenCall}
 use Rattle.demands.specs.Program.{Program, Promise}
 
 -- the meaning's calls, with some match or other
@@ -20,6 +21,7 @@ withMatch other =
       writeTable = writeCall;
       arityOf = arityBack;
       pairOf = pairBack;
+      widen = widenCall;
     }
 
 abbrev pub meant : Program
@@ -39,6 +41,7 @@ is-meant P k =
       writeTable = λ arities pairs output. k .write-table arities pairs output i;
       arityOf = λ table symbol. k .arity-of table symbol i;
       pairOf = λ table index. k .pair-of table index i;
+      widen = λ words output. k .widen words output i;
     }
 
 -- THEOREM: what is returned and left in lent memory is fixed: two programs that keep their promises are equal

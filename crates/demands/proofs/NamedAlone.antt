@@ -42,4 +42,5 @@ named-alone P d =
       write-table = λ arities pairs output. never _ _ (ap has13 (d .order .writer arities pairs output)) (d .write-table arities pairs output);
       arity-of = λ table symbol. never _ _ (ap has13 (d .order .back table symbol _)) (d .arity-of table symbol);
       pair-of = λ table index. never _ _ (ap has13 (d .order .back table index _)) (d .pair-of table index);
+      widen = λ words output. never _ _ (ap has13 (d .order .widen words output)) (d .widen words output);
     }

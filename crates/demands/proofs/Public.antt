@@ -4,11 +4,11 @@ use mathlib.Core.List.{List}
 use Prim.Native.Nat.{ℕ}
 use Rattle.theory.specs.Pairs.{Pair}
 use Rattle.meaning.specs.File.{pairsOf, numbersOf}
-use Rattle.meaning.specs.Calls.{Matched, matchCall}
-use Rattle.meaning.specs.Tables.{Wrote, writeCall}
+use Rattle.meaning.specs.Calls.{matchCall}
+use Rattle.meaning.specs.Tables.{writeCall}
+use Rattle.meaning.specs.Saved.{widenCall}
 use Rattle.writer.proofs.Numbers.{pairs-of-numbers}
-use Rattle.matching.specs.Outcomes.{resultOf}
-use Rattle.demands.specs.Program.{Program, Promise}
+use Rattle.demands.specs.Program.{Promise}
 use Rattle.demands.specs.Public.{Calls, Kept, programOf}
 use Rattle.demands.specs.Demand1.{Demand1}
 use Rattle.demands.specs.Demand2.{Demand2}
@@ -29,6 +29,9 @@ module _ (C : Calls) (k : Kept C) where
       let e : pairsOf (numbersOf pairs) ≡ pairs = pairs-of-numbers pairs in
       ap₂ (λ a l. record { answer = a; output = l }) (p .answers) (p .leaves) ∙ rw e
 
+  widens : (words output : List ℕ) → programOf C .widen words output ≡ widenCall words output
+  widens words output = let p = k .widen words output in ap₂ (λ a l. record { answer = a; output = l }) (p .answers) (p .leaves)
+
   promise : Promise (programOf C)
   promise =
       record {
@@ -41,6 +44,7 @@ module _ (C : Calls) (k : Kept C) where
         write-table = writes;
         arity-of = k .arity-of;
         pair-of = k .pair-of;
+        widen = widens;
       }
 
   -- THEOREM: whatever results the public promises allow, the demands hold of them

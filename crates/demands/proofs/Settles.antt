@@ -11,7 +11,7 @@ use Rattle.demands.proofs.Demands.{demand2}
 use Rattle.demands.proofs.Further.{further}
 use Rattle.demands.proofs.Keeps.{keeps}
 use Rattle.demands.proofs.Settled.{same-is-table, same-symbol-degree, same-heading-degree, same-subterm, same-nearer}
-use Rattle.demands.proofs.SettledFiles.{same-arity-of, same-pair-of, same-writing}
+use Rattle.demands.proofs.SettledFiles.{same-arity-of, same-pair-of, same-writing, same-widening}
 use Rattle.demands.proofs.Stated.{stated}
 use Rattle.demands.proofs.SettledMatch.{same-match}
 
@@ -32,6 +32,7 @@ module _ (P : Program) (one : Demand1 P) (two : Demand2 P) (more : Further P) wh
         write-table = same-writing P meant one demand1 more further;
         arity-of = same-arity-of P meant one demand1 more further;
         pair-of = same-pair-of P meant one demand1 more further;
+        widen = same-widening P meant one demand1 more further;
       }
 
   -- THEOREM: demand 3 follows from them

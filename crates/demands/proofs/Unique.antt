@@ -1,8 +1,9 @@
--- The promises are equations with the meaning, and what an answer says names it; each call's own proof stands in the crate `headings`.
+-- The promises are equations with the meaning, and what an answer says names it; each call's own proof stands in its crate.
 use Rattle.tables.proofs.OneTable.{one-table, one-symbol-degree, one-arity, one-pair-at}
 use Rattle.headings.proofs.OneTerm.{one-degree, one-subterm, one-nearer}
 use Rattle.matches.proofs.OneMatch.{one-match}
 use Rattle.tables.proofs.OneWriting.{one-writing}
+use Rattle.saved.proofs.OneWidening.{one-widening}
 use Rattle.demands.specs.Unique.{Unique}
 
 -- THEOREM
@@ -18,4 +19,5 @@ unique =
       write-table = one-writing;
       arity-of = one-arity;
       pair-of = one-pair-at;
+      widen = one-widening;
     }

@@ -15,6 +15,7 @@ use Rattle.meaning.proofs.Wrong.{always-nine, always-same, writes-nothing, firs
 use Rattle.demands.specs.Program.{Program}
 use Rattle.demands.specs.Demand2.{Demand2}
 use Rattle.demands.specs.Further.{Further}
+use Rattle.demands.proofs.Lent.{noSpans, noSets, image}
 
 -- an answer is no refusal
 pub not-both : {A : Type 0} (x : A) (n place : ℕ) → gives x ≡ refused n place → ⊥
@@ -23,34 +24,34 @@ not-both x n place e = let z : _≡_ {A = ℕ} 0 1 = cc in omega arith
 module _ (P : Program) where
   -- what the program gives to the listing's question at a cut
   abbrev listed : ℕ → Matched
-  listed cut = P .match T p h cut (zeros 128) (zeros 20)
+  listed cut = P .match T p h cut noSpans (noSets 5)
 
   module _ (d : Demand2 P) where
     demanded : MatchOf T p h 500 (listed 500) × MatchOf T p h 601 (listed 601) × MatchOf T p h 700 (listed 700)
     unfolding inputRows tableRows row1-short row1-offsets row2 row3 row4 row5 row6 row7 row8 tableIn aritiesIn pairsIn walk several
     demanded = (
-      d .match T p h 500 (zeros 128) (zeros 20) refl,
-      d .match T p h 601 (zeros 128) (zeros 20) refl,
-      d .match T p h 700 (zeros 128) (zeros 20) refl,
+      d .match T p h 500 noSpans (noSets 5) refl,
+      d .match T p h 601 noSpans (noSets 5) refl,
+      d .match T p h 700 noSpans (noSets 5) refl,
     )
 
     -- 1. it always says 9
     pub always-nine-fails : ((table pattern heading : List ℕ) (cut : ℕ) (spans sets : List ℕ) → (i : ℕ) × (P .match table pattern heading cut spans sets .answer ≡ refused 9 i)) → ⊥
-    always-nine-fails w = let r = w T p h 500 (zeros 128) (zeros 20) in always-nine (listed 500) (r .0) (r .1) (demanded .0)
+    always-nine-fails w = let r = w T p h 500 noSpans (noSets 5) in always-nine (listed 500) (r .0) (r .1) (demanded .0)
 
     -- 2. it always gives the same sets, whatever the cut
     pub always-same-fails : ((table pattern heading : List ℕ) (cut cut′ : ℕ) (spans sets : List ℕ)
         → (P .match table pattern heading cut spans sets .spans ≡ P .match table pattern heading cut′ spans sets .spans)
         × (P .match table pattern heading cut spans sets .sets ≡ P .match table pattern heading cut′ spans sets .sets))
         → ⊥
-    always-same-fails w = let r = w T p h 500 700 (zeros 128) (zeros 20) in always-same (listed 500) (listed 700) (r .0) (r .1) (demanded .0) (demanded .2)
+    always-same-fails w = let r = w T p h 500 700 noSpans (noSets 5) in always-same (listed 500) (listed 700) (r .0) (r .1) (demanded .0) (demanded .2)
 
     -- 3. it writes nothing
     pub writes-nothing-fails : ((table pattern heading : List ℕ) (cut : ℕ) (spans sets : List ℕ) → P .match table pattern heading cut spans sets .spans ≡ spans) → ⊥
-    writes-nothing-fails w = writes-nothing (listed 500) (w T p h 500 (zeros 128) (zeros 20)) (demanded .0)
+    writes-nothing-fails w = writes-nothing (listed 500) (w T p h 500 noSpans (noSets 5)) (demanded .0)
 
     -- 4. of what faces a variable it sees the first alone: at 601 the listing's sets would be {1, 4} and {5, 7}
-    pub first-only-fails : listed 601 .spans ≡ (0 ∷ 2 ∷ 500 ∷ 1000 ∷ []) ++ zeros 124 → listed 601 .sets ≡ (18 ∷ 0 ∷ 0 ∷ 0 ∷ 160 ∷ []) ++ zeros 15 → ⊥
+    pub first-only-fails : listed 601 .spans ≡ (0 ∷ 2 ∷ 500 ∷ 1000 ∷ []) ++ zeros 124 → listed 601 .sets ≡ image 18 ++ image 160 ++ noSets 3 → ⊥
     first-only-fails e f = first-only (listed 601) e f (demanded .1)
 
     -- 5. its degrees are invented: the highest at 500 is not the best matcher's, 700

@@ -18,7 +18,7 @@ use Rattle.meaning.specs.Limits.{spanWidth}
 use Rattle.meaning.specs.File.{aritiesIn, pairsIn, tableIn}
 use Rattle.meaning.specs.Refusals.{row1-short, row1-offsets, row2, row3, row4, row5, row6, row7, row8, row9, row10, tableRows}
 use Rattle.meaning.specs.Packing.{packedCount, packedSpans}
-use Rattle.meaning.specs.Calls.{Answer, refused, gives, Degrees, degrees, Matched, zeros, facesIn, inputRows, searchRows, matchRows, matched, laterSpans, matchCall}
+use Rattle.meaning.specs.Calls.{Answer, refused, gives, Degrees, degrees, Matched, facesIn, inputRows, searchRows, matchRows, matched, laterSpans, matchCall}
 use Rattle.meaning.specs.Buffers.{firstPosition, positionCount, holds, DrawnFrom}
 use Rattle.meaning.specs.Demands.{Found, Decides, Narrower, Accepted, Demand2 as MatchOf, Demand3 as CutsOf}
 use Rattle.meaning.proofs.Matched.{ready}
@@ -33,6 +33,7 @@ use Rattle.demands.specs.Further.{Further}
 use Rattle.demands.proofs.Meant.{withMatch}
 use Rattle.demands.proofs.Demands.{demand2, demand3}
 use Rattle.demands.proofs.Instances.{met2}
+use Rattle.demands.proofs.Lent.{noSpans, noSets}
 
 -- spans in which variable 31 has 5 and 3
 abbrev spoilt : List ℕ → List ℕ
@@ -179,7 +180,7 @@ absent-meets = (record { degree = demand2 .degree; match = of-match }, record { 
         }
 
 -- at the listing's question it has counted 3 for variable 31
-counted : (absent T p h 500 (zeros 128) (zeros 20) .answer ≡ gives (degrees 500 700)) × (positionCount (absent T p h 500 (zeros 128) (zeros 20) .spans) 31 ≡ 3)
+counted : (absent T p h 500 noSpans (noSets 5) .answer ≡ gives (degrees 500 700)) × (positionCount (absent T p h 500 noSpans (noSets 5) .spans) 31 ≡ 3)
 unfolding
     matched laterSpans matchRows inputRows searchRows facesIn packedCount packedSpans tableRows row1-short row1-offsets row2 row3 row4 row5 row6 row7 row8 row9 row10 tableIn aritiesIn pairsIn patternOf
     termOf parse parseRow walk several
@@ -190,7 +191,7 @@ pub absent-fails : (P : Program)
     → ((table pattern heading : List ℕ) (cut : ℕ) (spans sets : List ℕ) → P .match table pattern heading cut spans sets ≡ absent table pattern heading cut spans sets)
     → Further P → ⊥
 absent-fails P w f =
-    let e = w T p h 500 (zeros 128) (zeros 20) in
-    let s = f .matches T p h 500 (zeros 128) (zeros 20) (met2 .1) pattern-tree writes-P heading-tree writes-H in
+    let e = w T p h 500 noSpans (noSets 5) in
+    let s = f .matches T p h 500 noSpans (noSets 5) (met2 .1) pattern-tree writes-P heading-tree writes-H in
     let q = s .packed (degrees 500 700) (ap (λ r. r .answer) e ∙ counted .0) .absent 31 (lit< tt) refl .1 in
     omega (arith, q, ap (λ r. positionCount (r .spans) 31) e, counted .1)

@@ -2,7 +2,7 @@
 -- set no more than those.
 use mathlib.Core.Path.{_≡_, refl, sym as inv, _∙_, subst}
 use mathlib.Core.Logic.{_↔_, _⊎_, inl, inr}
-use mathlib.Core.List.{[], _∷_}
+use mathlib.Core.List.{[], _∷_, _++_}
 use mathlib.Core.Bool.{Bool, true, false, _||_, not, cond, false≢true}
 use Prim.Native.Nat.{ℕ, zero, suc, _+_, _<_}
 use native.Mathlib.Omega.{arith}
@@ -18,25 +18,26 @@ use Rattle.theory.proofs.Lemmas.{every-at}
 use Rattle.meaning.specs.File.{aritiesIn, pairsIn, tableIn}
 use Rattle.meaning.specs.Refusals.{row1-short, row1-offsets, row2, row3, row4, row5, row6, row7, row8, row9, row10, tableRows}
 use Rattle.meaning.specs.Packing.{packedCount, packedSpans, packedSets}
-use Rattle.meaning.specs.Calls.{Matched, zeros, facesIn, inputRows, searchRows, matchRows, matched, laterSpans, laterSets, matchCall}
+use Rattle.meaning.specs.Calls.{Matched, facesIn, inputRows, searchRows, matchRows, matched, laterSpans, laterSets, matchCall}
 use Rattle.meaning.specs.Buffers.{firstPosition, positionCount, holds, DrawnFrom}
 use Rattle.meaning.specs.Demands.{Found, Decides, Demand2 as MatchOf}
 use Rattle.meaning.proofs.Matched.{demand2}
 use Rattle.meaning.proofs.Examples.{T}
 use Rattle.demands.proofs.WrongPlaces.{pattern, heading, pattern-tree, writes-pattern, passed, gave, overlap, by-number, extra}
+use Rattle.demands.proofs.Lent.{noSpans, noSets, image}
 
 -- the right result, and that demand 2 is met by it
 abbrev right : Matched
-right = gave (1 ∷ 1 ∷ 500 ∷ 1000 ∷ 0 ∷ 1 ∷ 500 ∷ 1000 ∷ []) (224 ∷ 0 ∷ 0 ∷ 0 ∷ 224 ∷ 0 ∷ 0 ∷ 0 ∷ [])
+right = gave (1 ∷ 1 ∷ 500 ∷ 1000 ∷ 0 ∷ 1 ∷ 500 ∷ 1000 ∷ []) (image 224 ++ image 224)
 
-is-right : matchCall T pattern heading 500 (zeros 128) (zeros 12) ≡ right
+is-right : matchCall T pattern heading 500 noSpans (noSets 3) ≡ right
 unfolding
     matched laterSpans laterSets matchRows inputRows searchRows facesIn packedCount packedSpans packedSets tableRows row1-short row1-offsets row2 row3 row4 row5 row6 row7 row8 row9 row10 tableIn aritiesIn pairsIn
     patternOf termOf parse parseRow walk several
 is-right = refl
 
 right-meets : MatchOf T pattern heading 500 right
-right-meets = subst (MatchOf T pattern heading 500) is-right (demand2 T pattern heading 500 (zeros 128) (zeros 12) passed)
+right-meets = subst (MatchOf T pattern heading 500) is-right (demand2 T pattern heading 500 noSpans (noSets 3) passed)
 
 -- ---- results that one reads alike, as far as terms over T go
 

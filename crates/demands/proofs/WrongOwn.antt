@@ -22,6 +22,7 @@ use Rattle.demands.specs.Program.{Program}
 use Rattle.demands.specs.Further.{Further}
 use Rattle.demands.proofs.Meant.{meant}
 use Rattle.demands.proofs.Further.{further}
+use Rattle.demands.proofs.Lent.{noSpans, noSets, image}
 
 -- ---- the question
 
@@ -45,7 +46,7 @@ writes-heading : WritesTerm (tableIn T) heading heading-tree
 unfolding tableIn aritiesIn
 writes-heading = record { over = (lit< tt, refl, ((lit< tt, refl, ((lit< tt, refl, tt), tt)), ((lit< tt, refl, tt), tt))); is = refl }
 
-passed : Accepted T pattern heading 600 (zeros 128) (zeros 16)
+passed : Accepted T pattern heading 600 noSpans (noSets 4)
 unfolding inputRows tableRows row1-short row1-offsets row2 row3 row4 row5 row6 row7 row8 tableIn aritiesIn pairsIn walk several
 passed = refl
 
@@ -55,10 +56,10 @@ gave low₀ high₀ low₁ high₁ =
     record {
       answer = gives (degrees 600 600);
       spans = (0 ∷ 1 ∷ low₀ ∷ high₀ ∷ 1 ∷ 1 ∷ low₁ ∷ high₁ ∷ []) ++ zeros 120;
-      sets = (192 ∷ 0 ∷ 0 ∷ 0 ∷ 160 ∷ []) ++ zeros 11;
+      sets = image 192 ++ image 160 ++ noSets 2;
     }
 
-right : matchCall T pattern heading 600 (zeros 128) (zeros 16) ≡ gave 800 1000 700 1000
+right : matchCall T pattern heading 600 noSpans (noSets 4) ≡ gave 800 1000 700 1000
 unfolding
     matched laterSpans laterSets matchRows inputRows searchRows facesIn packedCount packedSpans packedSets tableRows row1-short row1-offsets row2 row3 row4 row5 row6 row7 row8 row9 row10 tableIn aritiesIn pairsIn
     patternOf termOf parse parseRow walk several
@@ -68,10 +69,10 @@ right = refl
 
 module _ (P : Program) where
   abbrev given : Matched
-  given = P .match T pattern heading 600 (zeros 128) (zeros 16)
+  given = P .match T pattern heading 600 noSpans (noSets 4)
 
   own-degrees : Further P → given .answer ≡ gives (degrees 600 600) → VariableDegrees (tableIn T) 600 pattern-tree heading-tree given 600 600
-  own-degrees f = f .matches T pattern heading 600 (zeros 128) (zeros 16) passed pattern-tree writes-pattern heading-tree writes-heading .own-degrees 600 600
+  own-degrees f = f .matches T pattern heading 600 noSpans (noSets 4) passed pattern-tree writes-pattern heading-tree writes-heading .own-degrees 600 600
 
 meant-degrees : VariableDegrees (tableIn T) 600 pattern-tree heading-tree (given meant) 600 600
 meant-degrees = own-degrees meant further (ap (λ r. r .answer) right)

@@ -8,10 +8,10 @@ use Prim.Native.Nat.{ℕ, zero, suc, _+_, _*_, _<_}
 use native.Mathlib.Omega.{arith}
 use lib.Dec.{lit<}
 use lib.Seq.{getD-append-add}
-use lib.ListN.{length, getD}
+use lib.ListN.{length, getD, replicate}
 use Rattle.theory.specs.Tree.{Term, node, ∅, _▹_, Pattern, var, sym, ∅ₚ, _▸_}
 use Rattle.theory.specs.Read.{walk, several}
-use Rattle.meaning.specs.Limits.{spanWidth}
+use Rattle.meaning.specs.Limits.{setWords, setRoom, spanWidth}
 use Rattle.meaning.specs.File.{aritiesIn, pairsIn, tableIn}
 use Rattle.meaning.specs.Refusals.{row1-short, row1-offsets, row2, row3, row4, row5, row6, row7, row8, tableRows}
 use Rattle.meaning.specs.Calls.{gives, degrees, Matched, zeros, inputRows}
@@ -23,6 +23,7 @@ use Rattle.meaning.proofs.Examples.{T}
 use Rattle.demands.specs.Program.{Program}
 use Rattle.demands.specs.Demand1.{Demand1}
 use Rattle.demands.specs.Further.{MatchSays, Further}
+use Rattle.demands.proofs.Lent.{noSpans, noSets, image}
 
 -- ---- the question
 
@@ -46,23 +47,23 @@ pub writes-heading : WritesTerm (tableIn T) heading heading-tree
 unfolding tableIn aritiesIn
 writes-heading = record { over = (lit< tt, refl, ((lit< tt, refl, tt), ((lit< tt, refl, tt), tt))); is = refl }
 
-pub passed : Accepted T pattern heading 500 (zeros 128) (zeros 12)
+pub passed : Accepted T pattern heading 500 noSpans (noSets 3)
 unfolding inputRows tableRows row1-short row1-offsets row2 row3 row4 row5 row6 row7 row8 tableIn aritiesIn pairsIn walk several
 passed = refl
 
 -- an answer with these spans and these words in front
 abbrev pub gave : List ℕ → List ℕ → Matched
-gave spans words = record { answer = gives (degrees 500 1000); spans = spans ++ zeros 120; sets = words ++ zeros 4 }
+gave spans words = record { answer = gives (degrees 500 1000); spans = spans ++ zeros 120; sets = words ++ noSets 1 }
 
 -- ---- what a program that meets the statements gives
 
 module _ (P : Program) where
   abbrev pub given : Matched
-  given = P .match T pattern heading 500 (zeros 128) (zeros 12)
+  given = P .match T pattern heading 500 noSpans (noSets 3)
 
   module _ (f : Further P) (answers : given .answer ≡ gives (degrees 500 1000)) where
     says : MatchSays (tableIn T) 500 pattern-tree heading-tree pattern given
-    says = f .matches T pattern heading 500 (zeros 128) (zeros 12) passed pattern-tree writes-pattern heading-tree writes-heading
+    says = f .matches T pattern heading 500 noSpans (noSets 3) passed pattern-tree writes-pattern heading-tree writes-heading
 
     -- x1 starts at 0, and x0 where x1 ends
     first-start : firstPosition (given .spans) 1 ≡ 0
@@ -72,14 +73,14 @@ module _ (P : Program) where
     second-start = says .packed (degrees 500 1000) answers .starts 0 refl
 
     -- every number in the first set is a symbol
-    symbols : (s : ℕ) → s < 256 → 0 < positionCount (given .spans) 1 → holds (given .sets) (firstPosition (given .spans) 1 + 0) s ≡ true → s < 8
+    symbols : (s : ℕ) → s < setRoom → 0 < positionCount (given .spans) 1 → holds (given .sets) (firstPosition (given .spans) 1 + 0) s ≡ true → s < 8
     unfolding tableIn aritiesIn
     symbols s l m e = says .sets-and-degrees 500 1000 answers .sets 1 refl 0 m s l .0 e .0
 
 -- ---- two variables at position 0, and rubbish at position 1
 
 abbrev pub overlap : Matched
-overlap = gave (0 ∷ 1 ∷ 500 ∷ 1000 ∷ 0 ∷ 1 ∷ 500 ∷ 1000 ∷ []) (224 ∷ 0 ∷ 0 ∷ 0 ∷ 7 ∷ 7 ∷ 7 ∷ 7 ∷ [])
+overlap = gave (0 ∷ 1 ∷ 500 ∷ 1000 ∷ 0 ∷ 1 ∷ 500 ∷ 1000 ∷ []) (image 224 ++ replicate setWords 7)
 
 -- THEOREM: it fails where the starts are spoken of (`PackedInOrder.starts`)
 pub overlap-fails : (P : Program) → given P ≡ overlap → Further P → ⊥
@@ -101,14 +102,14 @@ behind (suc (suc v)) m = omega (arith, m .1, none-at (spanWidth * suc (suc v)) (
 -- THEOREM: and where all other words are (`Leaves.other-sets`)
 pub rubbish-fails : (P : Program) → given P ≡ overlap → Demand1 P → ⊥
 rubbish-fails P w d =
-    let l = d .match-leaves T pattern heading 500 (zeros 128) (zeros 12) in
-    let z = l .other-sets (degrees 500 1000) (ap (λ r. r .answer) w) 4 (λ v b m. behind v (subst (λ r. InSpan (r .spans) v 1) w m)) in
-    omega (arith, z, ap (λ r. getD (r .sets) 4 0) w)
+    let l = d .match-leaves T pattern heading 500 noSpans (noSets 3) in
+    let z = l .other-sets (degrees 500 1000) (ap (λ r. r .answer) w) setWords (λ v b m. behind v (subst (λ r. InSpan (r .spans) v 1) w m)) in
+    omega (arith, z, ap (λ r. getD (r .sets) setWords 0) w)
 
 -- ---- x0 before x1
 
 abbrev pub by-number : Matched
-by-number = gave (0 ∷ 1 ∷ 500 ∷ 1000 ∷ 1 ∷ 1 ∷ 500 ∷ 1000 ∷ []) (224 ∷ 0 ∷ 0 ∷ 0 ∷ 224 ∷ 0 ∷ 0 ∷ 0 ∷ [])
+by-number = gave (0 ∷ 1 ∷ 500 ∷ 1000 ∷ 1 ∷ 1 ∷ 500 ∷ 1000 ∷ []) (image 224 ++ image 224)
 
 -- THEOREM: it fails where the starts are spoken of (`PackedInOrder.starts`)
 pub by-number-fails : (P : Program) → given P ≡ by-number → Further P → ⊥
@@ -117,7 +118,7 @@ by-number-fails P w f = omega (arith, first-start P f (ap (λ r. r .answer) w), 
 -- ---- 8, which is no symbol of T, in x1's set
 
 abbrev pub extra : Matched
-extra = gave (1 ∷ 1 ∷ 500 ∷ 1000 ∷ 0 ∷ 1 ∷ 500 ∷ 1000 ∷ []) (480 ∷ 0 ∷ 0 ∷ 0 ∷ 224 ∷ 0 ∷ 0 ∷ 0 ∷ [])
+extra = gave (1 ∷ 1 ∷ 500 ∷ 1000 ∷ 0 ∷ 1 ∷ 500 ∷ 1000 ∷ []) (image 480 ++ image 224)
 
 -- THEOREM: it fails where the sets are spoken of (`SetsAndDegrees.sets`)
 pub extra-fails : (P : Program) → given P ≡ extra → Further P → ⊥

@@ -12,15 +12,16 @@ use Rattle.theory.specs.Decode.{patternOf, termOf, parse, parseRow}
 use Rattle.meaning.specs.File.{aritiesIn, pairsIn, tableIn}
 use Rattle.meaning.specs.Refusals.{row1-short, row1-offsets, row2, row3, row4, row5, row6, row7, row8, row9, row10, tableRows, SoundFile}
 use Rattle.meaning.specs.Packing.{packedCount}
-use Rattle.meaning.specs.Calls.{Answer, refused, gives, Degrees, degrees, zeros, facesIn, inputRows, searchRows, matchRows, matched}
+use Rattle.meaning.specs.Calls.{Answer, refused, gives, Degrees, degrees, facesIn, inputRows, searchRows, matchRows, matched}
 use Rattle.meaning.specs.Demands.{Accepted}
 use Rattle.meaning.specs.Tables.{arityByte, KeptAs}
 use Rattle.meaning.proofs.PairsKept.{made-richer}
 use Rattle.demands.specs.Program.{Program, Promise}
+use Rattle.demands.proofs.Lent.{noSpans, noSets}
 
 -- what a program answers, lent buffers that have room for four positions
 abbrev answerOf : Program → List ℕ → List ℕ → List ℕ → ℕ → Answer Degrees
-answerOf P table pattern heading cut = P .match table pattern heading cut (zeros 128) (zeros 16) .answer
+answerOf P table pattern heading cut = P .match table pattern heading cut noSpans (noSets 4) .answer
 
 -- ---- the sentences
 
@@ -38,7 +39,7 @@ HighestNeverRises P = OfBoth P (λ low₁ high₁ low₂ high₂. high₂ ≤ hi
 -- as many symbols and no degree lower, but other arities: an answer stays one
 abbrev AnyArities : Program → Type 0
 AnyArities P = (table₁ table₂ pattern heading : List ℕ) (cut : ℕ) → tableIn table₁ .size ≡ tableIn table₂ .size → ((a b : ℕ) → tableIn table₁ .deg a b ≤ tableIn table₂ .deg a b)
-    → Accepted table₁ pattern heading cut (zeros 128) (zeros 16) → Accepted table₂ pattern heading cut (zeros 128) (zeros 16)
+    → Accepted table₁ pattern heading cut noSpans (noSets 4) → Accepted table₂ pattern heading cut noSpans (noSets 4)
     → (d : Degrees) → answerOf P table₁ pattern heading cut ≡ gives d → (e : Degrees) × (answerOf P table₂ pattern heading cut ≡ gives e)
 
 -- ---- the tables
@@ -95,7 +96,7 @@ heading = 0 ∷ 1 ∷ 2 ∷ 3 ∷ []
 
 -- the answer of the meaning
 abbrev meantOf : List ℕ → List ℕ → List ℕ → ℕ → Answer Degrees
-meantOf table pattern heading cut = matched table pattern heading cut (zeros 128) (zeros 16)
+meantOf table pattern heading cut = matched table pattern heading cut noSpans (noSets 4)
 
 computed : (meantOf apart (32768 ∷ []) (0 ∷ []) 1 ≡ gives (degrees 1000 1000)) × (meantOf (near 5) (32768 ∷ []) (0 ∷ []) 1 ≡ gives (degrees 5 1000))
     × (meantOf (near 5) (1 ∷ []) (0 ∷ []) 5 ≡ gives (degrees 5 5)) × (meantOf (near 7) (1 ∷ []) (0 ∷ []) 5 ≡ gives (degrees 7 7))
@@ -106,13 +107,13 @@ unfolding
     patternOf termOf parse parseRow walk several
 computed = (refl, refl, refl, refl, refl, refl)
 
-passed : Accepted (four 1 0) pattern heading 1000 (zeros 128) (zeros 16) × Accepted (four 0 1) pattern heading 1000 (zeros 128) (zeros 16)
+passed : Accepted (four 1 0) pattern heading 1000 noSpans (noSets 4) × Accepted (four 0 1) pattern heading 1000 noSpans (noSets 4)
 unfolding inputRows tableRows row1-short row1-offsets row2 row3 row4 row5 row6 row7 row8 tableIn aritiesIn pairsIn walk several
 passed = (refl, refl)
 
 module _ (P : Program) (keeps : Promise P) where
   answer-is : (table pattern heading : List ℕ) (cut : ℕ) {a : Answer Degrees} → meantOf table pattern heading cut ≡ a → answerOf P table pattern heading cut ≡ a
-  answer-is table pattern heading cut e = ap (λ r. r .answer) (keeps .match table pattern heading cut (zeros 128) (zeros 16)) ∙ e
+  answer-is table pattern heading cut e = ap (λ r. r .answer) (keeps .match table pattern heading cut noSpans (noSets 4)) ∙ e
 
   -- THEOREM: the lowest degree falls from 1000 to 5
   pub lowest-falls : LowestNeverFalls P → ⊥

@@ -10,6 +10,7 @@ use Rattle.theory.specs.Pairs.{Pair}
 use Rattle.meaning.specs.File.{symbolCount, pairCount}
 use Rattle.meaning.specs.Refusals.{Row, Given, tableRows}
 use Rattle.meaning.specs.Calls.{refused, symbolRows, degreeRows, part, subtermRows, neither, nearerRows, lowestIn, highestIn, matchRows, writerRows, backRows}
+use Rattle.meaning.specs.Saved.{widenRows}
 use Rattle.meaning.specs.Demands.{Exactly, Order}
 use Rattle.meaning.specs.Matching.{Leaves, Lengths}
 use Rattle.demands.specs.Program.{Program}
@@ -28,6 +29,7 @@ pub record Demand1 (P : Program) : Type 0 where
   pub write-table : (arities : List ℕ) (pairs : List Pair) (output : List ℕ) → Exactly (writerRows arities pairs output) (P .writeTable arities pairs output .answer)
   pub arity-of : (table : List ℕ) (symbol : ℕ) → Exactly (backRows table symbol (symbolCount table)) (P .arityOf table symbol)
   pub pair-of : (table : List ℕ) (index : ℕ) → Exactly (backRows table index (pairCount table)) (P .pairOf table index)
+  pub widen : (words output : List ℕ) → Exactly (widenRows words output) (P .widen words output .answer)
   -- refusals that show in what is handed back
   pub subterm : (table term : List ℕ) (i : ℕ) → P .subterm table term i ≡ part 0 0 ↔ (Refuses (subtermRows table term) ⊎ (length term ≤ i))
   pub nearer : (table heading one two : List ℕ) → P .nearer table heading one two ≡ neither ↔ Refuses (nearerRows table heading one two)
@@ -40,4 +42,5 @@ pub record Demand1 (P : Program) : Type 0 where
   pub match-leaves : (table pattern heading : List ℕ) (cut : ℕ) (spans sets : List ℕ) → Leaves spans sets (P .match table pattern heading cut spans sets)
   pub writer-leaves : (arities : List ℕ) (pairs : List Pair) (output : List ℕ) (n place : ℕ)
       → P .writeTable arities pairs output .answer ≡ refused n place → P .writeTable arities pairs output .output ≡ output
+  pub widen-leaves : (words output : List ℕ) (n place : ℕ) → P .widen words output .answer ≡ refused n place → P .widen words output .output ≡ output
   pub lengths : Lengths (P .match) (P .writeTable)

@@ -1,18 +1,20 @@
--- What else is said of a program's calls: on tables, on headings and their parts, on the match.
+-- What else is said of a program's calls: on tables, on headings and their parts, on the match, on saved answers.
 use mathlib.Core.Path.{_≡_}
 use mathlib.Core.Logic.{_↔_}
-use mathlib.Core.List.{List}
+use mathlib.Core.List.{List, _++_}
 use mathlib.Core.Option.{none}
-use Prim.Native.Nat.{ℕ, _≤_, _<_}
-use lib.ListN.{length, getD}
+use Prim.Native.Nat.{ℕ, _*_, _≤_, _<_}
+use lib.ListN.{length, getD, drop}
 use Rattle.theory.specs.Tree.{Term, Pattern}
 use Rattle.theory.specs.Table.{Table, Richer}
 use Rattle.theory.specs.Pairs.{Pair}
 use Rattle.meaning.specs.File.{tableIn}
 use Rattle.meaning.specs.Refusals.{first, SoundFile}
-use Rattle.meaning.specs.Calls.{Answer, refused, gives, degreeRows, aye, Degrees, degrees, Matched}
+use Rattle.meaning.specs.Limits.{setWords}
+use Rattle.meaning.specs.Calls.{Answer, refused, gives, degreeRows, aye, Degrees, degrees, facesIn, Matched}
 use Rattle.meaning.specs.Demands.{WritesTerm, WritesPattern, Accepted}
 use Rattle.meaning.specs.Tables.{TableFile, TopNotListed, TopNotWritten, SymbolDegrees, MadeRicher, ReadBack, RoundTrip}
+use Rattle.meaning.specs.Saved.{savedRoom, Widens, leftThen}
 use Rattle.meaning.specs.Parts.{TermLists, Subterms, Nearest}
 use Rattle.meaning.specs.Matching.{Reasons, SetsAndDegrees, VariableDegrees, PackedInOrder, NoOverlap}
 use Rattle.meaning.specs.TopCut.{MatchersMakeIt, AtTopCut}
@@ -53,6 +55,7 @@ pub record NamedThereAlone (P : Program) : Type 0 where
   pub write-table : (arities : List ℕ) (pairs : List Pair) (output : List ℕ) → Never13 (P .writeTable arities pairs output .answer)
   pub arity-of : (table : List ℕ) (symbol : ℕ) → Never13 (P .arityOf table symbol)
   pub pair-of : (table : List ℕ) (index : ℕ) → Never13 (P .pairOf table index)
+  pub widen : (words output : List ℕ) → Never13 (P .widen words output .answer)
 
 pub record Further (P : Program) : Type 0 where
   -- tables
@@ -87,3 +90,9 @@ pub record Further (P : Program) : Type 0 where
       → LosesNothing table₁ table₂ pattern heading cut (P .match table₁ pattern heading cut spans₁ sets₁) (P .match table₂ pattern heading cut spans₂ sets₂)
   pub stays-answered : (table₁ table₂ pattern heading : List ℕ) (cut : ℕ) (spans sets : List ℕ) → Richer (tableIn table₁) (tableIn table₂) → P .isTable table₂ ≡ gives aye
       → (d : Degrees) → P .match table₁ pattern heading cut spans sets .answer ≡ gives d → (e : Degrees) × (P .match table₂ pattern heading cut spans sets .answer ≡ gives e)
+  -- saved answers: what the converter leaves; and that a saved answer of a table whose symbols all had room, converted, is what the match itself leaves
+  -- today in sets for as many positions
+  pub widens : (words output : List ℕ) → Widens words output (P .widen words output)
+  pub as-today : (table pattern heading : List ℕ) (cut : ℕ) (spans sets output : List ℕ) → tableIn table .size ≤ savedRoom
+      → (d : Degrees) → P .match table pattern heading cut spans sets .answer ≡ gives d → (n : ℕ) → length sets ≡ setWords * n → length sets ≤ length output
+      → P .widen (leftThen (tableIn table) cut (facesIn table pattern heading) n) output .output ≡ P .match table pattern heading cut spans sets .sets ++ drop (length sets) output

@@ -1,4 +1,5 @@
--- A program: what each of the eight calls gives and leaves in lent memory, for everything that can be lent to it. Reading back is two calls.
+-- A program: what each call gives and leaves in lent memory, for everything that can be lent to it. Reading back is two calls; the last one is the
+-- converter of saved answers.
 use mathlib.Core.Path.{_≡_}
 use mathlib.Core.List.{List}
 use Prim.Native.Nat.{ℕ}
@@ -6,6 +7,7 @@ use lib.ListN.{take, drop}
 use Rattle.theory.specs.Pairs.{Pair}
 use Rattle.meaning.specs.Calls.{Answer, Yes, isTable, symbolDegree, headingDegree, Part, part, subterm, Nearer, theFirst, theSecond, neither, nearer, Matched, matchCall, arityBack, pairBack}
 use Rattle.meaning.specs.Tables.{Wrote, writeCall}
+use Rattle.meaning.specs.Saved.{widenCall}
 
 pub record Program : Type 0 where
   pub isTable : (table : List ℕ) → Answer Yes
@@ -17,6 +19,7 @@ pub record Program : Type 0 where
   pub writeTable : (arities : List ℕ) (pairs : List Pair) (output : List ℕ) → Wrote
   pub arityOf : (table : List ℕ) (symbol : ℕ) → Answer ℕ
   pub pairOf : (table : List ℕ) (index : ℕ) → Answer Pair
+  pub widen : (words output : List ℕ) → Wrote
 
 -- What the program promises: that each call gives, and leaves in lent memory, what the meaning says.
 pub record Promise (P : Program) : Type 0 where
@@ -29,6 +32,7 @@ pub record Promise (P : Program) : Type 0 where
   pub write-table : (arities : List ℕ) (pairs : List Pair) (output : List ℕ) → P .writeTable arities pairs output ≡ writeCall arities pairs output
   pub arity-of : (table : List ℕ) (symbol : ℕ) → P .arityOf table symbol ≡ arityBack table symbol
   pub pair-of : (table : List ℕ) (index : ℕ) → P .pairOf table index ≡ pairBack table index
+  pub widen : (words output : List ℕ) → P .widen words output ≡ widenCall words output
 
 -- Two calls hand back a list of the caller's. What the part of a list holds; and what the nearer hands back of the two candidates: the first, the
 -- second, or the empty part at the first's start.

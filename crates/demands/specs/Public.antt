@@ -1,7 +1,6 @@
 -- The public calls as users run them: any results, and any later contents of lent memory, that the calls' promises allow.
 use mathlib.Core.List.{List}
 use Prim.Native.Nat.{ℕ}
-use Rattle.theory.specs.Pairs.{Pair}
 use Rattle.meaning.specs.File.{numbersOf}
 use Rattle.meaning.specs.Calls.{subterm, nearer}
 use Rattle.writer.specs.Said.{said}
@@ -16,9 +15,10 @@ use Rattle.tables.specs.Tables.{saidTable, IsTable, saidDegree, SymbolDegree, s
 use Rattle.headings.specs.Terms.{Nodes, DegreeOfHeadings, Subterm, Nearer}
 use Rattle.matches.specs.Matching.{MatchHeading}
 use Rattle.tables.specs.Writing.{WriteTable}
+use Rattle.saved.specs.Widening.{Widen}
 use Rattle.demands.specs.Program.{Program}
 
--- What a match, a writing returned and left.
+-- What a match, and a call that writes, returned and left.
 pub record Matching : Type 0 where
   pub outcome : Outcome
   pub spans : List ℕ
@@ -39,6 +39,7 @@ pub record Calls : Type 0 where
   pub writeTable : (arities numbers output : List ℕ) → Written
   pub arityOf : List ℕ → ℕ → ArityAnswer
   pub pairOf : List ℕ → ℕ → PairAnswer
+  pub widen : (words output : List ℕ) → Written
 
 -- Each result is one that the call's promise allows.
 pub record Kept (C : Calls) : Type 0 where
@@ -53,6 +54,7 @@ pub record Kept (C : Calls) : Type 0 where
       → let w = C .writeTable arities numbers output in WriteTable arities numbers output (w .writing) (w .output)
   pub arity-of : (table : List ℕ) (symbol : ℕ) → ArityOf table symbol (C .arityOf table symbol)
   pub pair-of : (table : List ℕ) (index : ℕ) → PairAt table index (C .pairOf table index)
+  pub widen : (words output : List ℕ) → let w = C .widen words output in Widen words output (w .writing) (w .output)
 
 -- What the calls say, as a program: numbers, places, values and buffers. (Which part of a list, and which of two candidates, is handed back is what the
 -- promises of the subterm and the nearer name; that the reference is that one is in them.)
@@ -70,4 +72,5 @@ programOf C =
           let w = C .writeTable arities (numbersOf pairs) output in record { answer = said (w .writing); output = w .output };
       arityOf = λ table symbol. saidArity (C .arityOf table symbol);
       pairOf = λ table index. saidPair (C .pairOf table index);
+      widen = λ words output. let w = C .widen words output in record { answer = said (w .writing); output = w .output };
     }

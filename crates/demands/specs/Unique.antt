@@ -14,6 +14,7 @@ use Rattle.tables.specs.Tables.{IsTable, SymbolDegree, ArityOf, PairAt}
 use Rattle.headings.specs.Terms.{Nodes, DegreeOfHeadings, Subterm, Nearer}
 use Rattle.matches.specs.Matching.{MatchHeading}
 use Rattle.tables.specs.Writing.{WriteTable}
+use Rattle.saved.specs.Widening.{Widen}
 
 pub record Unique : Type 0 where
   pub is-table : (table : List ℕ) (r s : TableAnswer) → IsTable table r → IsTable table s → r ≡ s
@@ -30,3 +31,4 @@ pub record Unique : Type 0 where
       → WriteTable arities numbers output r later → WriteTable arities numbers output s after → (r ≡ s) × (later ≡ after)
   pub arity-of : (table : List ℕ) (symbol : ℕ) (r s : ArityAnswer) → ArityOf table symbol r → ArityOf table symbol s → r ≡ s
   pub pair-of : (table : List ℕ) (index : ℕ) (r s : PairAnswer) → PairAt table index r → PairAt table index s → r ≡ s
+  pub widen : (words output : List ℕ) (r s : Writing) (later after : List ℕ) → Widen words output r later → Widen words output s after → (r ≡ s) × (later ≡ after)

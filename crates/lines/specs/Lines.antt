@@ -6,7 +6,7 @@ use mathlib.Core.Bool.{cond}
 use Prim.Native.Nat.{ℕ, zero, suc, _+_, _-_, _*_, _≤_, _<_}
 use lib.Dec.{eqb, ltb}
 use lib.ListN.{length}
-use Rattle.meaning.specs.Limits.{setWords, variableCount, spanWidth}
+use Rattle.meaning.specs.Limits.{setWords, setRoom, variableCount, spanWidth}
 use Rattle.meaning.specs.Calls.{Answer, refused, gives, Degrees, degrees, Matched}
 use Rattle.meaning.specs.Buffers.{firstPosition, positionCount, ownLowest, ownHighest}
 use Rattle.meaning.specs.Program.{decimal, line, matchWord, variableWord, positionLine, variableLines, refusedText, textOf}
@@ -32,9 +32,9 @@ matchedBy reply spans sets = record { answer = replied reply; spans = spans; set
 
 -- ---- one line
 
--- Room for any line: the longest has 256 symbols, and none is wider than five digits and a space.
+-- Room for any line: the longest has as many symbols as a set has room for, and none is wider than five digits and a space.
 abbrev pub lineRoom : ℕ
-lineRoom = 2048
+lineRoom = 8 * setRoom
 
 unfoldable pub replyLine : Reply → List ℕ
 replyLine (Match low high) = line (matchWord ∷ decimal low ∷ decimal high ∷ [])

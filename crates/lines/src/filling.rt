@@ -4,6 +4,7 @@ ghost use lib.ListN.{length};
 ghost use Rattle.lines.specs.Lines.{OnLine, Spanned};
 ghost use Rattle.lines.specs.Filling.{FilledBy};
 use crate::line::Cursor;
+use crate::line::LINE_ROOM;
 use crate::line::Line;
 use crate::line::Reply;
 use crate::line::next_line;
@@ -29,7 +30,7 @@ pub fn fill(
 {
     let mut end = at;
     let mut next = cursor;
-    while out.len() - end >= 2048 {
+    while out.len() - end >= LINE_ROOM {
         match next_line(reply, spans, sets, next, out, end) {
             Line::Text(line_end, after) => {
                 end = line_end;

@@ -41,6 +41,9 @@ pub enum Line {
 // How many numbers a variable's span has.
 const SPAN: usize = 4;
 
+// Room for any line: the longest has every symbol that a set has room for.
+pub const LINE_ROOM: usize = 8 * SymbolSet::ROOM as usize;
+
 fn first_position(spans: &[u16], v: u16) -> u16
     requires { ⌜ (spanWidth * variableCount ≤ length (now spans)) × (v < variableCount) ⌝ }
     ensures { λ r. ⌜ r ≡ firstPosition (now (spans .entry)) v ⌝ }
@@ -181,7 +184,7 @@ fn put_symbols(out: &mut [u8], start: usize, sets: &[u64], position: usize) -> u
     ensures { λ r. ⌜ PutBy (now (out .entry)) start (symbolsLine (now (sets .entry)) position) r (now (out .exit)) ⌝ }
 {
     let mut at = start;
-    for k in 0..256 {
+    for k in 0..SymbolSet::ROOM {
         if in_set(sets, position, k) {
             at = put_field(out, start, at, k);
         }

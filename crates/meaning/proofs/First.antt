@@ -13,6 +13,7 @@ use Rattle.theory.specs.Least.{leastBelow, All}
 use lib.ListN.{length, getD}
 use Rattle.meaning.specs.Refusals.{Refusal, refusal, Row, row, rowPlace, first, Given, row1-short, row1-offsets, row2, row3, row4, row5, row6, row7, row8, row8-output, row9, row10, row13, row14, tableRows}
 use Rattle.meaning.specs.Calls.{refused, gives, unless, symbolRows, degreeRows, subtermRows, inputRows, searchRows, matchRows, writerRows, backRows}
+use Rattle.meaning.specs.Saved.{row8-words, widenRows}
 use Rattle.meaning.specs.Demands.{Exactly, Order}
 
 -- a row more in front, which does not hold
@@ -73,7 +74,7 @@ module _ {A : Type 0} where
 
 -- THEOREM: the rows of each call stand in their order, whatever is lent
 pub order : Order
-unfolding symbolRows degreeRows subtermRows matchRows inputRows searchRows writerRows backRows tableRows row1-short row1-offsets row2 row3 row4 row5 row6 row7 row8 row8-output row9 row10 row13 row14
+unfolding symbolRows degreeRows subtermRows matchRows inputRows searchRows writerRows backRows widenRows row8-words tableRows row1-short row1-offsets row2 row3 row4 row5 row6 row7 row8 row8-output row9 row10 row13 row14
 order =
     record {
       is-table = λ table. refl;
@@ -83,6 +84,7 @@ order =
       match = λ table pattern heading cut spans sets. refl;
       writer = λ arities pairs output. refl;
       back = λ table index count. refl;
+      widen = λ words output. refl;
     }
 
 -- ---- rows in two parts

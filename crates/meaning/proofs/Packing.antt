@@ -19,21 +19,39 @@ use Rattle.meaning.specs.Packing.{through, variables, without, firsts, o
 
 -- ---- lists of equal width, one after the other
 
-module _ {A : Type 0} (f : ℕ → List A) (m : ℕ) (wide : (k : ℕ) → length (f k) ≡ m) (d : A) where
-  pub length-through : (n : ℕ) → length (through n f) ≡ m * n
-  length-through zero = omega arith
-  length-through (suc n) = omega (arith, length-append (through n f) (f n), length-through n, wide n)
+module _ {A : Type 0} (f : ℕ → List A) (m : ℕ) where
+  -- the first n have m elements each
+  abbrev pub WideBelow : ℕ → Type 0
+  WideBelow n = (k : ℕ) → k < n → length (f k) ≡ m
+
+  fewer : (n : ℕ) → WideBelow (suc n) → WideBelow n
+  fewer n wide k l = wide k (omega arith)
+
+  pub length-below : (n : ℕ) → WideBelow n → length (through n f) ≡ m * n
+  length-below zero wide = omega arith
+  length-below (suc n) wide = omega (arith, length-append (through n f) (f n), length-below n (fewer n wide), wide n (omega arith))
 
   -- LAW: number j of the list k
-  pub through-at : (n k j : ℕ) → k < n → j < m → getD (through n f) (m * k + j) d ≡ getD (f k) j d
-  through-at zero k j l b = absurd (not-suc-le-zero l)
-  through-at (suc n) k j l b = last-or-below {P = λ k. getD (through (suc n) f) (m * k + j) d ≡ getD (f k) j d} n top (λ k l. below k l (through-at n k j l b)) k l
+  pub at-below : (n : ℕ) → WideBelow n → (d : A) (k j : ℕ) → k < n → j < m → getD (through n f) (m * k + j) d ≡ getD (f k) j d
+  at-below zero wide d k j l b = absurd (not-suc-le-zero l)
+  at-below (suc n) wide d k j l b =
+      last-or-below {P = λ k. getD (through (suc n) f) (m * k + j) d ≡ getD (f k) j d} n top (λ k l. below k l (at-below n (fewer n wide) d k j l b)) k l
     where
+      long : length (through n f) ≡ m * n
+      long = length-below n (fewer n wide)
+
       top : getD (through n f ++ f n) (m * n + j) d ≡ getD (f n) j d
-      top = ap (λ i. getD (through n f ++ f n) (i + j) d) (inv (length-through n)) ∙ getD-append-add (through n f) (f n) j d
+      top = ap (λ i. getD (through n f ++ f n) (i + j) d) (inv long) ∙ getD-append-add (through n f) (f n) j d
 
       below : (k : ℕ) → k < n → getD (through n f) (m * k + j) d ≡ getD (f k) j d → getD (through n f ++ f n) (m * k + j) d ≡ getD (f k) j d
-      below k l e = List·getD-append (through n f) (f n) d (m * k + j) (omega (arith, length-through n, mul-le-mul-left m l)) ∙ e
+      below k l e = List·getD-append (through n f) (f n) d (m * k + j) (omega (arith, long, mul-le-mul-left m l)) ∙ e
+
+module _ {A : Type 0} (f : ℕ → List A) (m : ℕ) (wide : (k : ℕ) → length (f k) ≡ m) (d : A) where
+  pub length-through : (n : ℕ) → length (through n f) ≡ m * n
+  length-through n = length-below f m n (λ k l. wide k)
+
+  pub through-at : (n k j : ℕ) → k < n → j < m → getD (through n f) (m * k + j) d ≡ getD (f k) j d
+  through-at n = at-below f m n (λ k l. wide k) d
 
 -- ---- in order, each once
 

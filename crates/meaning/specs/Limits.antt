@@ -6,7 +6,7 @@ abbrev pub wordBits : ℕ
 wordBits = 64
 
 abbrev pub setWords : ℕ
-setWords = 4
+setWords = 8
 
 abbrev pub setRoom : ℕ
 setRoom = wordBits * setWords

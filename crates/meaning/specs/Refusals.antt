@@ -131,7 +131,7 @@ row7 T heading = row 7 (faultOf (reading T false heading))
 unfoldable pub row8 : List ℕ → List ℕ → List ℕ → Row
 row8 heading spans sets = row 8 (at0 (ltb (length spans) (spanWidth * variableCount) || ltb (length sets) (setWords * length heading)))
 
--- 8 of the writer, at 0: the output is shorter than the file.
+-- 8 of a call that writes, at 0: the output is shorter than what is to be written.
 unfoldable pub row8-output : ℕ → List ℕ → Row
 row8-output n output = row 8 (at0 (ltb (length output) n))
 

@@ -46,7 +46,7 @@ StandsBefore file k j = (lowerAt file k < lowerAt file j) ⊎ ((lowerAt file k �
 pub record TableFile (file : List ℕ) : Type 0 where
   pub whole-header : 10 ≤ length file
   pub some-symbol : 1 ≤ symbolCount file
-  pub few-symbols : symbolCount file ≤ 256
+  pub few-symbols : symbolCount file ≤ 512
   pub few-pairs : pairCount file ≤ 8192
   pub arities-follow : aritiesOffset file ≡ 10
   pub pairs-follow : pairsOffset file ≡ 10 + symbolCount file
@@ -73,11 +73,11 @@ TopNotWritten pairs answer = (k l h d : ℕ) → k < length pairs → getD pairs
 
 -- ---- what a table that is not refused holds
 
--- It is lawful, with at most 256 symbols: what is known of degrees in general holds for its symbols. No two different ones have degree 1000.
+-- It is lawful, with at most 512 symbols: what is known of degrees in general holds for its symbols. No two different ones have degree 1000.
 pub record SoundTable (table : List ℕ) : Type 0 where
   pub lawful : Lawful (tableIn table)
   pub only-itself : OnlyItself (tableIn table)
-  pub small : tableIn table .size ≤ 256
+  pub small : tableIn table .size ≤ 512
 
 -- The answer for two symbol numbers: 1000 of a symbol with itself and of no other two, a listed pair's degree in either order, 0 of every other two
 -- symbols. A number that is no symbol is refused at its place, and the first is told where neither is one.

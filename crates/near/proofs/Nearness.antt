@@ -3,25 +3,29 @@
 use mathlib.Core.Path.{_≡_, refl, sym as inv, ap, _∙_, subst}
 use mathlib.Core.Logic.{inl, inr}
 use mathlib.Core.List.{List}
-use mathlib.Core.Bool.{Bool, true, false, _&&_, _||_, cond, or-false, false≢true}
-use Prim.Native.Nat.{ℕ, _+_, _-_, _≤_, _<_, min, max}
+use mathlib.Core.Bool.{Bool, true, false, _&&_, _||_, cond, or-comm, false≢true}
+use Prim.Native.Nat.{ℕ, _+_, _-_, _*_, _/_, _%_, _≤_, _<_, min, max}
 use native.Mathlib.Decide.{ℕ-discrete}
 use native.Mathlib.Numerals.{add-one}
 use native.Mathlib.Omega.{arith}
 use borrow.Author.Tests.{lt-ltb, ltb-true, eq-eqb}
 use lib.Dec.{ltb, leb, eqb}
+use lib.ListN.{length, getD}
 use Rattle.theory.specs.Least.{some, lowest}
 use Rattle.theory.specs.Table.{Table}
 use Rattle.theory.specs.Pairs.{Pair, pair, isPair, SoundPair}
 use Rattle.theory.proofs.Lemmas.{the-most, and-true, and-left, and-right, or-right, lowest-le, lowest-top, le-lowest}
-use Rattle.meaning.specs.Limits.{setRoom}
+use Rattle.meaning.specs.Limits.{wordBits, setWords, setRoom}
+use Rattle.meaning.specs.Calls.{zeros}
+use Rattle.meaning.specs.Buffers.{bit}
 use Rattle.meaning.specs.File.{pairCount, pairAt, aritiesIn, tableIn}
 use Rattle.meaning.specs.Refusals.{SoundFile}
 use Rattle.meaning.specs.Tables.{pairStart, lowerAt, higherAt, degreeAt}
+use Rattle.meaning.proofs.Bits.{bit-zero, getD-zeros}
 use Rattle.meaning.proofs.Bytes.{pair-in}
 use Rattle.meaning.proofs.Sound.{sound}
 use Rattle.table.proofs.Reading.{sound-at}
-use Rattle.near.specs.Near.{inNear, farthest, isNear, NearSets, OwnSets, PairJoined}
+use Rattle.near.specs.Near.{nearWords, inRow, inNear, farthest, isNear, NearSets, PairJoined}
 use Rattle.near.specs.OnePass.{brings, walked}
 use Rattle.near.proofs.OnePass.{pair-degree, apart, one-pass}
 
@@ -38,18 +42,22 @@ module _ (file : List ℕ) (cut : ℕ) where
 
   -- the sets as the first n pairs make them
   pub record NearTo (n : ℕ) (near : List ℕ) : Type 0 where
-    pub has : (h k : ℕ) → k < setRoom → inNear near h k ≡ walked file cut n h k
+    pub has : (h k : ℕ) → k < setRoom → inRow near h k ≡ some n (brings file cut h k)
     pub within : (h : ℕ) → farthest near h ≤ 1000
     pub low : (h : ℕ) → 1000 - farthest near h ≡ lowest n (brought h)
 
-  -- LAW: no pair yet
-  pub near-none : (symbols : ℕ) (near : List ℕ) → symbols ≡ tableIn file .size → OwnSets symbols near → NearTo 0 near
-  near-none symbols near all own =
+  -- LAW: no pair yet, in zeros
+  pub near-none : (near : List ℕ) → near ≡ zeros (length near) → NearTo 0 near
+  unfolding inRow farthest
+  near-none near e =
       record {
-        has = λ h k l. own .has h k l ∙ ap (λ (n : ℕ). ltb h n && eqb k h) all ∙ inv (or-false _);
-        within = λ h. omega (arith, own .far h);
-        low = λ h. omega (arith, own .far h);
+        has = λ h k l. ap (bit (k % wordBits)) (none-at (nearWords * h + k / wordBits)) ∙ bit-zero (k % wordBits);
+        within = λ h. omega (arith, none-at (nearWords * h + setWords));
+        low = λ h. omega (arith, none-at (nearWords * h + setWords));
       }
+    where
+      none-at : (i : ℕ) → getD near i 0 ≡ 0
+      none-at i = ap (λ (s : List ℕ). getD s i 0) e ∙ getD-zeros (length near) i
 
   -- LAW: one pair more
   pub near-next : (n lower higher degree : ℕ) (before after : List ℕ) → pair lower higher degree ≡ pairAt file (pairStart file n) → degreeAt file n ≤ 1000
@@ -59,20 +67,13 @@ module _ (file : List ℕ) (cut : ℕ) where
       record {
         has = λ h k l.
             more .has h k l
-            ∙ rw (so-far .has h k l, add-one n) (moved (ltb h (tableIn file .size) && eqb k h) (some n (brings file cut h k)) (brings file cut h k n));
+            ∙ rw (so-far .has h k l, add-one n) (or-comm (some n (brings file cut h k)) (brings file cut h k n));
         within = λ h. grown h (touches h n) (more .far h) .0;
         low = λ h. rw (add-one n) (grown h (touches h n) (more .far h) .1);
       }
     where
       Joins : Pair → Type 0
       Joins (pair l u d) = PairJoined cut l u d before after
-
-      moved : (a b c : Bool) → ((a || b) || c) ≡ (a || (c || b))
-      moved true b c = refl
-      moved false true true = refl
-      moved false true false = refl
-      moved false false true = refl
-      moved false false false = refl
 
       grown : (h : ℕ) (b : Bool) → farthest after h ≡ cond b (max (farthest before h) (1000 - degreeAt file n)) (farthest before h)
           → (farthest after h ≤ 1000) × (1000 - farthest after h ≡ min (cond b (degreeAt file n) 1000) (lowest n (brought h)))
@@ -152,11 +153,17 @@ module _ (file : List ℕ) (cut : ℕ) where
             omega (arith, lowest-top (pairCount file) (brought h), ap (T .deg k) d, sound file ok .lawful .itself k inside)
         go true e (no d) = different d (and-right (ltb k (T .size)) (leb cut (T .deg k h)) e) _ refl
 
-    -- LAW: all pairs
+    -- LAW: all pairs, where a symbol is in its own set besides
     pub near-all : cut ≤ 1000 → (near : List ℕ) → NearTo (pairCount file) near → NearSets T cut near
+    unfolding inNear
     near-all top near all =
         record {
-          has = λ h k l. all .has h k l ∙ one-pass file ok cut positive top .as-asked h k;
+          has = λ h k m l.
+              let itself : walked file cut (pairCount file) h k ≡ (eqb k h || some (pairCount file) (brings file cut h k)) = rw (lt-ltb h (T .size) m) in
+              ap (λ (b : Bool). b || eqb k h) (all .has h k l)
+              ∙ or-comm (some (pairCount file) (brings file cut h k)) (eqb k h)
+              ∙ inv itself
+              ∙ one-pass file ok cut positive top .as-asked h k;
           within = all .within;
           low = λ h.
               let g : ℕ → ℕ = λ k. cond (isNear T cut h k) (T .deg k h) 1000 in

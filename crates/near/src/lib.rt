@@ -5,9 +5,8 @@ ghost use lib.ListN.{length};
 ghost use Rattle.meaning.specs.Limits.{setRoom};
 ghost use Rattle.meaning.specs.File.{tableIn};
 ghost use Rattle.meaning.specs.Refusals.{SoundFile};
-ghost use Rattle.meaning.specs.Calls.{zeros};
 ghost use Rattle.meaning.specs.Buffers.{member};
-ghost use Rattle.near.specs.Near.{nearWords, inNear, farthest, Fresh, Kept, NearSets, OwnSets, Joined, PairJoined};
+ghost use Rattle.near.specs.Near.{nearWords, inRow, inNear, farthest, Fresh, Kept, NearSets, Joined, PairJoined};
 use sets::SymbolSet;
 use table::read::Pair;
 use table::read::pair_count;
@@ -15,7 +14,7 @@ use table::read::pair_from;
 use table::read::symbol_count;
 
 // How many words a symbol has: its set, and how far the lowest degree in the set is below 1000.
-const NEAR_WORDS: usize = 5;
+pub const NEAR_WORDS: usize = SymbolSet::WORDS + 1;
 
 fn greater(a: u64, b: u64) -> u64
     ensures { λ r. ⌜ r ≡ max a b ⌝ }
@@ -23,37 +22,38 @@ fn greater(a: u64, b: u64) -> u64
     if a < b { b } else { a }
 }
 
-// The set of symbol h.
-pub fn set_of(near: &[u64], h: u16) -> SymbolSet
+// What the pairs bring to the set of symbol h.
+fn row_of(near: &[u64], h: u16) -> SymbolSet
     requires { ⌜ nearWords * (h + 1) ≤ length (now near) ⌝ }
-    ensures { λ r. ⌜ ((k : ℕ) → k < setRoom → member (r .words) k ≡ inNear (now (near .entry)) h k) ⌝ }
+    ensures { λ r. ⌜ ((k : ℕ) → k < setRoom → member (r .words) k ≡ inRow (now (near .entry)) h k) ⌝ }
 {
     let at = NEAR_WORDS * h as usize;
-    SymbolSet {
-        words: [near[at], near[at + 1], near[at + 2], near[at + 3]],
+    let mut words = [0u64; SymbolSet::WORDS];
+    for i in 0..SymbolSet::WORDS {
+        words[i] = near[at + i];
     }
+    SymbolSet { words }
 }
 
-// Puts symbol k, which has this degree with symbol h, into the set of h.
+// The set of symbol h. The symbol itself joins only here, so that no symbol's row is touched but by a pair.
+pub fn set_of(near: &[u64], h: u16) -> SymbolSet
+    requires { ⌜ (nearWords * (h + 1) ≤ length (now near)) × (h < setRoom) ⌝ }
+    ensures { λ r. ⌜ ((k : ℕ) → k < setRoom → member (r .words) k ≡ inNear (now (near .entry)) h k) ⌝ }
+{
+    row_of(near, h).join(SymbolSet::of(h))
+}
+
+// Puts symbol k, which has this degree with symbol h, into the set of h. One bit is set in place, so that this costs the same however many
+// words a set has.
 fn join(near: &mut [u64], h: u16, k: u16, degree: u16)
     requires { ⌜ (nearWords * (h + 1) ≤ length (now near)) × (k < setRoom) × (degree ≤ 1000) ⌝ }
     ensures { λ _. ⌜ Joined h k degree (now (near .entry)) (now (near .exit)) ⌝ }
 {
     let at = NEAR_WORDS * h as usize;
-    let set = set_of(near, h).join(SymbolSet::of(k));
-    set.put(near, at);
+    let word = at + (k / SymbolSet::BITS) as usize;
+    near[word] = near[word] | 1u64 << (k % SymbolSet::BITS);
     let far = at + SymbolSet::WORDS;
     near[far] = greater(near[far], (1000 - degree) as u64);
-}
-
-// Puts each symbol into its own set.
-fn own_sets(near: &mut [u64], symbols: u16)
-    requires { ⌜ (symbols ≤ setRoom) × (nearWords * symbols ≤ length (now near)) × (now near ≡ zeros (length (now near))) ⌝ }
-    ensures { λ _. ⌜ OwnSets symbols (now (near .exit)) ⌝ }
-{
-    for h in 0..symbols {
-        join(near, h, h, 1000);
-    }
 }
 
 // Puts the symbols of a pair into each other's sets, if its degree reaches the cut.
@@ -75,7 +75,6 @@ pub fn near_sets(file: &[u8], cut: u16, near: &mut [u64])
     ensures { λ _. ⌜ NearSets (tableIn (now (file .entry))) cut (now (near .exit)) ⌝ }
 {
     let symbols = symbol_count(file);
-    own_sets(near, symbols);
     let mut at = 10 + symbols as usize;
     for k in 0..pair_count(file) {
         join_pair(near, pair_from(file, at), cut);

@@ -2,7 +2,7 @@
 ghost use mathlib.Core.Path.{_≡_};
 ghost use Prim.Native.Nat.{_≤_};
 ghost use lib.ListN.{length};
-ghost use Rattle.lines.specs.Lines.{Spanned};
+ghost use Rattle.lines.specs.Lines.{lineRoom, Spanned};
 ghost use Rattle.output.specs.Pendings.{Standing, isOver};
 use lines::filling::fill;
 use lines::line::Cursor;
@@ -55,7 +55,7 @@ fn is_over(cursor: Cursor) -> bool
 
 // Puts the answer's text behind what stands in the buffer, and writes the buffer out each time that it is full.
 pub fn put_answer(reply: Reply, spans: &[u16], sets: &[u64], out: &mut [u8], used: usize) -> Pending
-    requires { ⌜ Spanned (now spans) (now sets) × (used ≤ length (now out)) × (2048 ≤ length (now out)) ⌝ }
+    requires { ⌜ Spanned (now spans) (now sets) × (used ≤ length (now out)) × (lineRoom ≤ length (now out)) ⌝ }
     ensures { λ r. ⌜ Standing (length (now (out .entry))) r ⌝ }
 {
     let filled = fill(reply, spans, sets, Cursor::First, out, used);

@@ -1,21 +1,23 @@
 // What is said of each question: a line with its number, and behind it why there is no answer.
-ghost use Prim.Native.Nat.{_+_, _≤_};
+ghost use Prim.Native.Nat.{_+_, _-_, _≤_};
 ghost use lib.ListN.{length};
+ghost use Rattle.lines.specs.Lines.{lineRoom};
 ghost use Rattle.output.specs.Pendings.{Standing};
-ghost use Rattle.output.specs.Titles.{Roomy};
+ghost use Rattle.output.specs.Titles.{titleRoom, Roomy};
 use crate::pending::Pending;
 use crate::pending::put_answer;
 use crate::pending::write_out;
+use lines::line::LINE_ROOM;
 use lines::line::Reply;
 use text::put_byte;
 use text::put_text;
 
 // Writes the buffer out if it has no room for a line.
 fn make_room(out: &[u8], used: usize) -> Pending
-    requires { ⌜ (used ≤ length (now out)) × (2048 ≤ length (now out)) ⌝ }
-    ensures { λ r. ⌜ Roomy (length (now (out .entry))) 2048 r ⌝ }
+    requires { ⌜ (used ≤ length (now out)) × (lineRoom ≤ length (now out)) ⌝ }
+    ensures { λ r. ⌜ Roomy (length (now (out .entry))) lineRoom r ⌝ }
 {
-    if out.len() - used >= 2048 {
+    if out.len() - used >= LINE_ROOM {
         return Pending::Bytes(used);
     }
     if write_out(out, used) {
@@ -27,8 +29,8 @@ fn make_room(out: &[u8], used: usize) -> Pending
 
 // The line with the question's number.
 fn put_title(k: u64, out: &mut [u8], at: usize) -> usize
-    requires { ⌜ at + 2048 ≤ length (now out) ⌝ }
-    ensures { λ r. ⌜ r ≤ at + 30 ⌝ }
+    requires { ⌜ at + lineRoom ≤ length (now out) ⌝ }
+    ensures { λ r. ⌜ r ≤ at + titleRoom ⌝ }
 {
     let mut digits = [0u8; 20];
     let n = io::decimal(k, &mut digits);
@@ -38,8 +40,8 @@ fn put_title(k: u64, out: &mut [u8], at: usize) -> usize
 }
 
 pub fn say_title(k: u64, out: &mut [u8], used: usize) -> Pending
-    requires { ⌜ (used ≤ length (now out)) × (2048 ≤ length (now out)) ⌝ }
-    ensures { λ r. ⌜ Roomy (length (now (out .entry))) 2018 r ⌝ }
+    requires { ⌜ (used ≤ length (now out)) × (lineRoom ≤ length (now out)) ⌝ }
+    ensures { λ r. ⌜ Roomy (length (now (out .entry))) (lineRoom - titleRoom) r ⌝ }
 {
     match make_room(out, used) {
         Pending::Bytes(at) => Pending::Bytes(put_title(k, out, at)),
@@ -48,7 +50,7 @@ pub fn say_title(k: u64, out: &mut [u8], used: usize) -> Pending
 }
 
 pub fn say_cut_off(k: u64, out: &mut [u8], used: usize) -> Pending
-    requires { ⌜ (used ≤ length (now out)) × (2048 ≤ length (now out)) ⌝ }
+    requires { ⌜ (used ≤ length (now out)) × (lineRoom ≤ length (now out)) ⌝ }
     ensures { λ r. ⌜ Standing (length (now (out .entry))) r ⌝ }
 {
     match say_title(k, out, used) {
@@ -58,11 +60,12 @@ pub fn say_cut_off(k: u64, out: &mut [u8], used: usize) -> Pending
 }
 
 pub fn say_too_long(k: u64, out: &mut [u8], used: usize) -> Pending
-    requires { ⌜ (used ≤ length (now out)) × (2048 ≤ length (now out)) ⌝ }
+    requires { ⌜ (used ≤ length (now out)) × (lineRoom ≤ length (now out)) ⌝ }
     ensures { λ r. ⌜ Standing (length (now (out .entry))) r ⌝ }
 {
     let spans = [0u16; 128];
-    let sets = [0u64; 4];
+    // a refusal has no set to print
+    let sets = [0u64; 1];
     match say_title(k, out, used) {
         Pending::Bytes(at) => put_answer(Reply::Refused(12, 0), &spans, &sets, out, at),
         Pending::Failed => Pending::Failed,

@@ -97,7 +97,7 @@ module _ {table pattern heading : List ℕ} {cut : ℕ} {starts sizes : List ℕ
   module _ (near : List ℕ) (sets : NearSets (tableIn table) cut near) where
     -- LAW: so the near sets of all symbols are enough
     pub covers : nearWords * tableIn table .size ≤ length near → Covers heading near
-    covers room i l = (omega (arith, symbols i l), sets .within (getD heading i 0))
+    covers room i l = (omega (arith, symbols i l), sets .within (getD heading i 0), omega (arith, symbols i l, sound table (k .sound) .small))
 
     -- LAW: gathered for this table, they are its near sets at the cut
     pub near-of : NearOf (tableIn table) cut near heading

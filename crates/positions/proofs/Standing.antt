@@ -27,13 +27,13 @@ use Rattle.positions.specs.Facing.{NearOf, DegreeAt, NearAt, SharedAt, S
 
 -- ---- one near set
 
--- LAW: the words of the set of h are the symbols near to h
-pub near-members : {T : Table} {cut : ℕ} {near list : List ℕ} → NearOf T cut near list → (h : ℕ) (words : List ℕ) → length words ≡ setWords
+-- LAW: the words of the set of a symbol h are the symbols near to h
+pub near-members : {T : Table} {cut : ℕ} {near list : List ℕ} → NearOf T cut near list → (h : ℕ) → h < T .size → (words : List ℕ) → length words ≡ setWords
     → ((k : ℕ) → k < setRoom → member words k ≡ inNear near h k) → (s : ℕ) → member words s ≡ (ltb s (T .size) && leb cut (T .deg s h))
-near-members {T} {cut} known h words four same s = go (decLt s setRoom)
+near-members {T} {cut} known h symbol words four same s = go (decLt s setRoom)
   where
     go : Dec (s < setRoom) → member words s ≡ (ltb s (T .size) && leb cut (T .deg s h))
-    go (yes l) = same s l ∙ known .sets .has h s l
+    go (yes l) = same s l ∙ known .sets .has h s symbol l
     go (no l) = rw (le-ltb s (T .size) (omega (arith, known .small))) (none-past setWords words four s (omega arith))
 
 -- ---- one subterm

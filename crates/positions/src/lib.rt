@@ -128,12 +128,12 @@ fn shared_degrees(
     let pairs = pair_count(table);
     let mut lowest: u16 = 1000;
     let mut highest: u16 = 0;
-    let mut s = set.next(0);
+    let mut s = set.next(0, symbols);
     while s < symbols {
         let least = shared_at(table, symbols, pairs, heading, starts, sizes, count, k, s);
         lowest = lesser(lowest, least);
         highest = greater(highest, least);
-        s = set.next(s + 1);
+        s = set.next(s + 1, symbols);
     }
     Degrees { lowest, highest }
 }

@@ -2,6 +2,8 @@
 ghost use mathlib.Core.Path.{_≡_};
 ghost use Prim.Native.Nat.{_≤_};
 ghost use lib.ListN.{length};
+ghost use Rattle.lines.specs.Lines.{lineRoom};
+ghost use Rattle.shape.specs.Rooms.{mostRoom};
 ghost use Rattle.input.specs.Found.{Found};
 ghost use Rattle.replay.specs.Turns.{goOn, stopAt, Held};
 use input::batch::Next;
@@ -11,8 +13,8 @@ use output::pending::settle;
 use output::pending::write_out;
 use output::say::say_cut_off;
 use output::say::say_too_long;
-use question::serving::WORDS;
 use question::serving::say_answer;
+use shape::room::MOST_ROOM;
 
 // Twice as much as a question may have, so that bytes are moved seldom.
 const ROOM: usize = 131072;
@@ -54,7 +56,7 @@ fn answer_next(
     used: usize,
 ) -> Turn
     requires { ⌜ Found (length (now buffer)) next ⌝ }
-    requires { ⌜ (4100 ≤ length (now sets)) × (used ≤ length (now out)) × (2048 ≤ length (now out)) ⌝ }
+    requires { ⌜ (mostRoom ≤ length (now sets)) × (used ≤ length (now out)) × (lineRoom ≤ length (now out)) ⌝ }
     ensures { λ r. ⌜ Held (length (now (buffer .entry))) (length (now (out .entry))) r ⌝ }
 {
     match next {
@@ -80,7 +82,7 @@ fn take_turn(
     used: usize,
 ) -> Turn
     requires { ⌜ (at ≤ end) × (end ≤ length (now buffer)) × (65535 ≤ length (now buffer)) ⌝ }
-    requires { ⌜ (4100 ≤ length (now sets)) × (used ≤ length (now out)) × (2048 ≤ length (now out)) ⌝ }
+    requires { ⌜ (mostRoom ≤ length (now sets)) × (used ≤ length (now out)) × (lineRoom ≤ length (now out)) ⌝ }
     ensures { λ r. ⌜ Held (length (now (buffer .entry))) (length (now (out .entry))) r ⌝ }
 {
     match settle(out, used, at == end) {
@@ -94,7 +96,7 @@ fn take_turn(
 
 // Turn after turn, until the batch is over.
 fn answer_all(buffer: &mut [u8], sets: &mut [u64], out: &mut [u8])
-    requires { ⌜ (65535 ≤ length (now buffer)) × (4100 ≤ length (now sets)) × (2048 ≤ length (now out)) ⌝ }
+    requires { ⌜ (65535 ≤ length (now buffer)) × (mostRoom ≤ length (now sets)) × (lineRoom ≤ length (now out)) ⌝ }
 {
     let mut turn = Turn::Go(0, 0, 0);
     for k in 0..u64::MAX {
@@ -115,7 +117,7 @@ fn answer_all(buffer: &mut [u8], sets: &mut [u64], out: &mut [u8])
 
 fn main() {
     let mut buffer = [0u8; ROOM];
-    let mut sets = [0u64; WORDS];
+    let mut sets = [0u64; MOST_ROOM];
     let mut out = io::large_buffer();
     answer_all(&mut buffer, &mut sets, &mut out);
 }

@@ -10,7 +10,7 @@ ghost use lib.ListN.{length};
 ghost use Rattle.meaning.specs.Limits.{setWords, setRoom};
 ghost use Rattle.meaning.specs.Over.{over};
 ghost use Rattle.meaning.specs.Buffers.{member};
-ghost use Rattle.sets.specs.Words.{NextMember};
+ghost use Rattle.sets.specs.Words.{NextBelow};
 
 // A set of symbols: the first word tells of the first symbols, from its lowest bit up, and each word goes on from the one before.
 #[repr(C)]
@@ -20,13 +20,13 @@ pub struct SymbolSet {
 
 impl SymbolSet {
     // How many words a set has.
-    pub const WORDS: usize = 4;
+    pub const WORDS: usize = 8;
 
     // How many symbols a word tells of.
     pub const BITS: u16 = 64;
 
     // How many symbols a set has room for.
-    pub const ROOM: u16 = 256;
+    pub const ROOM: u16 = SymbolSet::WORDS as u16 * SymbolSet::BITS;
 
     // The set of no symbol.
     pub fn empty() -> SymbolSet
@@ -56,14 +56,15 @@ impl SymbolSet {
         (words[(k / SymbolSet::BITS) as usize] >> (k % SymbolSet::BITS)) % 2 == 1
     }
 
-    // The least symbol of the set that is not below `from`, or the room where there is none.
-    pub fn next(self, from: u16) -> u16
-        requires { ⌜ from ≤ setRoom ⌝ }
-        ensures { λ r. ⌜ NextMember setWords (self .words) from r ⌝ }
+    // The least symbol of the set that is not below `from`, or some number that is not below `end` where none is below that. Words past the end
+    // are not looked at, so that the symbols of a small table cost no more than they are.
+    pub fn next(self, from: u16, end: u16) -> u16
+        requires { ⌜ (from ≤ setRoom) × (end ≤ setRoom) ⌝ }
+        ensures { λ r. ⌜ NextBelow (self .words) from end r ⌝ }
     {
         let words = self.words;
         let mut k = from;
-        while k < SymbolSet::ROOM {
+        while k < end {
             let rest = words[(k / SymbolSet::BITS) as usize] >> (k % SymbolSet::BITS);
             if rest != 0 {
                 return k + u64::trailing_zeros(rest) as u16;

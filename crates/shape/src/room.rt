@@ -8,6 +8,9 @@ use table::number::number_at;
 // One node more than a list may have, so that a list that is too long still is when it is cut.
 pub const LONGEST: usize = 1025;
 
+// Words for the sets of any answer.
+pub const MOST_ROOM: usize = SymbolSet::WORDS * LONGEST;
+
 // How many words the sets of a question's answer need.
 pub fn room_for(input: &[u8]) -> usize
     ensures { λ r. ⌜ r ≡ roomFor (now (input .entry)) ⌝ }

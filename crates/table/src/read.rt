@@ -3,6 +3,7 @@ ghost use mathlib.Core.Path.{_≡_};
 ghost use Prim.Native.Nat.{_+_, _<_, _≤_};
 ghost use lib.ListN.{length, getD};
 ghost use Rattle.theory.specs.Pairs.{pair};
+ghost use Rattle.meaning.specs.Limits.{mostSymbols};
 ghost use Rattle.meaning.specs.File.{pairCount, pairAt, pairsIn, tableIn};
 ghost use Rattle.meaning.specs.Refusals.{SoundFile};
 ghost use Rattle.table.specs.Read.{pairIn};
@@ -18,7 +19,7 @@ pub struct Pair {
 
 pub fn symbol_count(file: &[u8]) -> u16
     requires { ⌜ SoundFile (now file) ⌝ }
-    ensures { λ r. ⌜ (r ≡ tableIn (now (file .entry)) .size) × (r ≤ 256) ⌝ }
+    ensures { λ r. ⌜ (r ≡ tableIn (now (file .entry)) .size) × (r ≤ mostSymbols) ⌝ }
 {
     number_at(file, 0)
 }

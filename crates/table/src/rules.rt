@@ -7,6 +7,10 @@ ghost use Rattle.theory.specs.Pairs.{pair};
 ghost use Rattle.meaning.specs.Refusals.{row, at0, row2, row3, unsound};
 ghost use Rattle.table.specs.Places.{placeIn};
 ghost use Rattle.table.specs.Keys.{keyOf};
+use sets::SymbolSet;
+
+// A table has no more symbols than a set has room for.
+const MOST_SYMBOLS: usize = SymbolSet::ROOM as usize;
 
 pub enum Place {
     At(usize),
@@ -20,7 +24,7 @@ pub fn allowed(symbols: usize, pairs: usize) -> bool
     if symbols < 1 {
         return false;
     }
-    if symbols > 256 {
+    if symbols > MOST_SYMBOLS {
         return false;
     }
     pairs <= 8192

@@ -1,7 +1,9 @@
 // What kind of node a number is.
 ghost use mathlib.Core.Path.{_≡_};
 ghost use Prim.Native.Nat.{_≤_};
+ghost use Rattle.meaning.specs.Limits.{mostSymbols};
 ghost use Rattle.terms.specs.Kinds.{kindOf};
+use sets::SymbolSet;
 
 pub enum Kind {
     Symbol(u16),
@@ -10,13 +12,16 @@ pub enum Kind {
     Neither,
 }
 
+// No table has a symbol above.
+const LAST_SYMBOL: u16 = SymbolSet::ROOM - 1;
+
 // The kind of a node over a table of so many symbols.
 pub fn kind_of(symbols: u16, node: u16) -> Kind
-    requires { ⌜ symbols ≤ 256 ⌝ }
+    requires { ⌜ symbols ≤ mostSymbols ⌝ }
     ensures { λ r. ⌜ r ≡ kindOf symbols node ⌝ }
 {
     match node {
-        0..=255 => if node < symbols {
+        0..=LAST_SYMBOL => if node < symbols {
             Kind::Symbol(node)
         } else {
             Kind::Neither

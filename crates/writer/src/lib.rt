@@ -17,7 +17,7 @@ use table::rules::allowed;
 use table::rules::high_arity;
 
 pub enum Writing {
-    // the file's length
+    // how much was written
     Written(usize),
     Refused(Refusal),
 }

@@ -47,7 +47,8 @@ impl<'a> Question<'a> {
         match self.table.symbols() {
             0..=16 => self.settle::<16>(&walk, spans, sets),
             17..=64 => self.settle::<64>(&walk, spans, sets),
-            _ => self.settle::<256>(&walk, spans, sets),
+            65..=256 => self.settle::<256>(&walk, spans, sets),
+            _ => self.settle::<512>(&walk, spans, sets),
         }
     }
 

@@ -4,6 +4,7 @@
 mod facing;
 mod matching;
 mod near;
+mod saved;
 mod table;
 mod terms;
 mod writer;
@@ -12,6 +13,7 @@ use crate::{Answer, Degrees, Pair, Refusal};
 use table::Table;
 use terms::{check_heading, check_pattern};
 
+pub use saved::widen;
 pub use writer::write_table;
 
 fn refuse<T>(number: u16, place: usize) -> Answer<T> {

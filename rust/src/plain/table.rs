@@ -12,7 +12,7 @@ pub const HEADER: usize = 10;
 /// How many bytes a pair has.
 pub const PAIR: usize = 6;
 
-const MAX_SYMBOLS: usize = 256;
+const MAX_SYMBOLS: usize = 512;
 const MAX_PAIRS: usize = 8192;
 const MAX_ARITY: u8 = 8;
 

@@ -1,7 +1,7 @@
 //! One question to both implementations: equal answers, equal buffers, guards and inputs as they were.
 
 use crate::lent::Lent;
-use shuuxideg::{plain, proved, MatchHeading, Pair, WriteTable};
+use shuuxideg::{plain, proved, MatchHeading, Pair, Widen, WriteTable, WORDS};
 use std::fmt::Debug;
 
 const GUARD: u16 = 0xa55a;
@@ -129,7 +129,7 @@ impl Asker {
 
     /// Room that is just enough.
     pub fn match_in_room(&mut self, pattern: &[u16], heading: &[u16], cut: u16) -> usize {
-        self.match_heading(pattern, heading, cut, 128, 4 * heading.len())
+        self.match_heading(pattern, heading, cut, 128, WORDS * heading.len())
     }
 }
 
@@ -150,6 +150,31 @@ pub fn write_table(arities: &[u8], pairs: &[Pair], room: usize) -> Option<Vec<u8
     assert!(lent_pairs.part() == pairs && lent_pairs.guarded());
     match ours.0 {
         Ok(total) => Some(ours.1.part()[..total].to_vec()),
+        Err(_) => {
+            assert!(ours.1 == out);
+            None
+        }
+    }
+}
+
+/// Asks both to convert a saved answer's words into so many; all of the output, if they were converted.
+pub fn widen(words: &[u64], room: usize) -> Option<Vec<u64>> {
+    let lent = Lent::new(words, WIDE_GUARD);
+    let out = Lent::new(&(0..room).map(|i| !(i as u64)).collect::<Vec<u64>>(), WIDE_GUARD);
+    let ask = |call: Widen| {
+        let mut out = out.clone();
+        let answer = call(lent.part(), out.part_mut());
+        assert!(out.guarded());
+        (answer, out)
+    };
+    let (ours, plain) = (ask(proved::widen), ask(plain::widen));
+    assert!(ours == plain, "{:?} and {:?} for {:?} in {}", ours.0, plain.0, words, room);
+    assert!(lent.part() == words && lent.guarded());
+    match ours.0 {
+        Ok(written) => {
+            assert!(written == 2 * words.len() && ours.1.part()[written..] == out.part()[written..]);
+            Some(ours.1.part().to_vec())
+        }
         Err(_) => {
             assert!(ours.1 == out);
             None

@@ -28,7 +28,7 @@ impl Draw {
 
     pub fn node(&mut self) -> u16 {
         let any = self.below(65536) as u16;
-        let drawn = [any, 0, 1, 7, 8, 255, 256, 300, 32767, X, X + 31, X + 32, 65535];
+        let drawn = [any, 0, 1, 7, 8, 255, 256, 300, 511, 512, 32767, X, X + 31, X + 32, 65535];
         self.one(&drawn)
     }
 
@@ -108,7 +108,7 @@ impl Drawn {
 
     /// One of the sizes about which something changes.
     pub fn large(draw: &mut Draw) -> Self {
-        let symbols = draw.one(&[15, 16, 17, 63, 64, 65, 127, 128, 129, 200, 255, 256]);
+        let symbols = draw.one(&[15, 16, 17, 63, 64, 65, 127, 128, 129, 200, 255, 256, 257, 320, 511, 512]);
         let hundredths = draw.one(&[2, 10, 30, 80]);
         Drawn::table(draw, symbols, hundredths)
     }
@@ -268,7 +268,7 @@ pub fn damaged_pairs(draw: &mut Draw, symbols: usize, pairs: &[Pair]) -> Vec<Pai
     let any = draw.below(symbols) as u16;
     match draw.below(8) {
         0 => pairs[at].degree = draw.one(&[0, 1, 999, 1000, 1001, 65535]),
-        1 => pairs[at].higher = draw.one(&[symbols as u16, 256, 65535]),
+        1 => pairs[at].higher = draw.one(&[symbols as u16, 256, 512, 65535]),
         2 => pairs[at].lower = pairs[at].higher,
         3 => {
             let pair = pairs[at];

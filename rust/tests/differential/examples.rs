@@ -2,21 +2,21 @@
 
 use crate::draw::Drawn;
 use crate::X;
-use shuuxideg::{plain, proved, MatchHeading, Refusal};
+use shuuxideg::{plain, proved, MatchHeading, Refusal, WORDS};
 
 /// Lowest, highest and the members of each set; or number and place.
 type Matched = Result<(u16, u16, Members), (u16, u16)>;
 type Members = Vec<Vec<u16>>;
 
 fn match_by(call: MatchHeading, cut: u16, pattern: &[u16], heading: &[u16]) -> Matched {
-    let (mut spans, mut sets) = ([0; 128], vec![0; 4 * heading.len()]);
+    let (mut spans, mut sets) = ([0; 128], vec![0; WORDS * heading.len()]);
     match call(&Drawn::t().file(), pattern, heading, cut, &mut spans, &mut sets) {
         Err(refusal) => Err((refusal.number, refusal.place)),
         Ok(degrees) => {
             let packed: u16 = spans.iter().skip(1).step_by(4).sum();
             let members =
-                |set: &[u64]| (0..256).filter(|k| set[k / 64] >> (k % 64) & 1 == 1).map(|k| k as u16).collect();
-            let sets = sets.chunks(4).take(usize::from(packed)).map(members).collect();
+                |set: &[u64]| (0..64 * WORDS).filter(|k| set[k / 64] >> (k % 64) & 1 == 1).map(|k| k as u16).collect();
+            let sets = sets.chunks(WORDS).take(usize::from(packed)).map(members).collect();
             Ok((degrees.lowest, degrees.highest, sets))
         }
     }

@@ -8,6 +8,7 @@ mod lent;
 mod matches;
 mod raw;
 mod richer;
+mod saved;
 mod tables;
 mod terms;
 mod writer;

@@ -3,6 +3,7 @@
 use crate::asks::{told, Asker};
 use crate::draw::{damaged, damaged_file, Draw, Drawn};
 use crate::X;
+use shuuxideg::WORDS;
 
 /// How often each refusal was given; 0 is a match.
 type Given = [usize; 12];
@@ -74,7 +75,7 @@ fn large_matches() {
             let cut = draw.one(&CUTS);
             given[asker.match_in_room(&pattern, &heading, cut)] += 1;
             let (more_spans, more_sets) = (draw.below(20), draw.below(50));
-            given[asker.match_heading(&pattern, &heading, 1, 128 + more_spans, 4 * heading.len() + more_sets)] += 1;
+            given[asker.match_heading(&pattern, &heading, 1, 128 + more_spans, WORDS * heading.len() + more_sets)] += 1;
         }
         asked += asker.asked;
     }
@@ -92,7 +93,7 @@ fn damaged_questions() {
         let table = if draw.chance(95) { Drawn::small(&mut draw) } else { Drawn::large(&mut draw) };
         let (mut pattern, mut heading) = table.question(&mut draw, 10, 6);
         let (mut file, mut cut) = (table.file(), draw.one(&CUTS));
-        let (mut spans, mut sets) = (128 + draw.below(3), 4 * heading.len() + draw.below(5));
+        let (mut spans, mut sets) = (128 + draw.below(3), WORDS * heading.len() + draw.below(5));
         for _ in 0..1 + draw.below(2) {
             match draw.below(6) {
                 0 => file = damaged_file(&mut draw, &file),
@@ -100,12 +101,12 @@ fn damaged_questions() {
                 2 => pattern = damaged(&mut draw, &pattern),
                 3 => heading = damaged(&mut draw, &heading),
                 4 => spans = draw.below(128),
-                _ => sets = draw.below(4 * heading.len() + 1),
+                _ => sets = draw.below(WORDS * heading.len() + 1),
             }
         }
         let mut asker = Asker::new(&file);
         given[asker.match_heading(&pattern, &heading, cut, spans, sets)] += 1;
-        asker.match_heading(&pattern, &heading, cut, 128, 4 * heading.len());
+        asker.match_heading(&pattern, &heading, cut, 128, WORDS * heading.len());
         asked += asker.asked;
     }
     assert!(given[1..9].iter().all(|&times| times > 10), "{:?}", given);
@@ -129,7 +130,7 @@ fn sizes_at_the_limits() {
         }
     }
     for spans in 126..134 {
-        for sets in 17..24 {
+        for sets in 37..44 {
             asker.match_heading(&[0, X, X], &[0, 1, 5, 2, 6], 600, spans, sets);
             asker.match_heading(&[0, X, X], &[0, 1, 5, 2, 6], 701, spans, sets);
             asker.match_heading(&[0, 5, X], &[0, 1, 5, 2, 6], 600, spans, sets);

@@ -2,7 +2,7 @@
 
 use crate::asks::told;
 use crate::draw::{damaged, damaged_file, damaged_pairs, Draw, Drawn};
-use shuuxideg::{ffi, plain, Refusal};
+use shuuxideg::{ffi, plain, Refusal, WORDS};
 
 const BEFORE: u16 = 4711;
 
@@ -28,9 +28,10 @@ fn answers_through_pointers() {
         numbers(&mut draw, &file);
         degrees(&file, &pattern, &heading, draw.one(&[0, 1, 500, 700]));
         writing(&mut draw, &table);
-        asked += 7;
+        widening(&mut draw);
+        asked += 8;
     }
-    told("raw, answers through pointers", asked, 21_000);
+    told("raw, answers through pointers", asked, 24_000);
 }
 
 fn numbers(draw: &mut Draw, file: &[u8]) {
@@ -70,7 +71,7 @@ fn degrees(file: &[u8], pattern: &[u16], heading: &[u16], cut: u16) {
     let plain = plain::heading_degree(file, heading, pattern);
     assert_eq!((ours, degree), (answer(&plain), plain.unwrap_or(BEFORE)));
 
-    let (mut spans, mut sets) = (vec![0; 128], vec![0; 4 * heading.len()]);
+    let (mut spans, mut sets) = (vec![0; 128], vec![0; WORDS * heading.len()]);
     let (mut lowest, mut highest) = (BEFORE, BEFORE);
     let ours = unsafe {
         ffi::shx_match(
@@ -112,4 +113,14 @@ fn writing(draw: &mut Draw, table: &Drawn) {
     };
     let plain = plain::write_table(&table.arities, &pairs, &mut out);
     assert_eq!((ours, total), (answer(&plain), plain.unwrap_or(usize::from(BEFORE))));
+}
+
+fn widening(draw: &mut Draw) {
+    let words = vec![7; draw.below(10)];
+    let mut out = vec![0; draw.below(20)];
+    let mut written = usize::from(BEFORE);
+    let ours =
+        unsafe { ffi::shx_widen(words.as_ptr(), words.len(), out.as_mut_ptr(), out.len(), &mut written) };
+    let plain = plain::widen(&words, &mut out);
+    assert_eq!((ours, written), (answer(&plain), plain.unwrap_or(usize::from(BEFORE))));
 }

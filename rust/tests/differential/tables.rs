@@ -107,15 +107,18 @@ fn counts_at_the_limits() {
     let full: Vec<shuuxideg::Pair> = (0..256)
         .flat_map(|lower| (lower + 1..256).map(move |higher| shuuxideg::Pair { lower, higher, degree: 1 + lower }))
         .collect();
-    for symbols in [0, 1, 2, 255, 256, 257, 300] {
+    for symbols in [0, 1, 2, 255, 256, 257, 511, 512, 513, 600] {
         for count in [0, 1, 2, 8191, 8192, 8193, 10922] {
             let file = file_of(&vec![0; symbols], &full[..count]);
             let mut asker = Asker::new(&file);
             asker.check_table();
             asker.symbol_degree(0, 1);
             asker.symbol_degree(255, 256);
+            asker.symbol_degree(511, 512);
             asker.arity(255);
             asker.arity(256);
+            asker.arity(511);
+            asker.arity(512);
             asker.pair(8191);
             asker.pair(8192);
             asked += asker.asked;

@@ -64,11 +64,11 @@ fn counts_at_the_limits() {
         .flat_map(|lower| (lower + 1..256).map(move |higher| Pair { lower, higher, degree: 999 - lower }))
         .collect();
     let mut asked = 0;
-    for symbols in [0, 1, 2, 255, 256, 257, 65536, 65536 + 8] {
+    for symbols in [0, 1, 2, 255, 256, 257, 511, 512, 513, 65536, 65536 + 8] {
         for count in [0, 1, 8191, 8192, 8193, 32640] {
             let rooms = [10 + symbols + 6 * count, 9 + symbols + 6 * count, 0];
             asked += write_in(&vec![0; symbols], &full[..count], &rooms);
         }
     }
-    told("writer, counts at the limits", asked, 144);
+    told("writer, counts at the limits", asked, 198);
 }

@@ -26,7 +26,7 @@ abbrev μ-loop : tie.MeasureT-loop
 
 module _ (c : tie.In-loop Inv-loop μ-loop) where
   abbrev entry : tie.Start Inv-loop μ-loop
-  entry = c .before .before .before .before .before .before .before .before .before .before
+  entry = c .before .before .before .before .before .before
 
   abbrev fileAt : List ℕ
   fileAt = now (entry .args .file)
@@ -43,9 +43,6 @@ pair-is c = c .pair-from .ensures ∙ ap (pairAt (fileAt (c .before .before))) (
 symbol-count-requires : tie.Need-symbol-count-requires Inv-loop μ-loop
 symbol-count-requires c κs = search needs
 
-own-sets-requires : tie.Need-own-sets-requires Inv-loop μ-loop
-own-sets-requires c κs = search needs
-
 cast-at : tie.Need-cast-at Inv-loop μ-loop
 cast-at c = search needs
 
@@ -57,10 +54,10 @@ pair-count-requires c κs = search needs
 
 loop-holds : tie.Need-loop-holds Inv-loop μ-loop
 loop-holds c =
-    let start = c .before .before .before .before .before .before .before .before in
+    let start = c .before .before .before .before in
     let file = now (start .args .file) in
-    let size : c .before .before .before .before .before .symbol-count .result ≡ tableIn file .size = c .before .before .before .before .before .symbol-count .ensures .0 in
-    (omega arith, omega (arith, size-is file (start .pre .0 .0)), refl, near-none file (start .args .cut) _ _ size (c .before .before .before .own-sets .ensures))
+    let size : c .before .symbol-count .result ≡ tableIn file .size = c .before .symbol-count .ensures .0 in
+    (omega arith, omega (arith, size-is file (start .pre .0 .0)), refl, near-none file (start .args .cut) _ (start .pre .1 .zero))
 
 pair-from-requires : tie.Need-pair-from-requires Inv-loop μ-loop
 pair-from-requires c κs = omega (arith, c .before .before .loop .inv .1, inside (c .before))
@@ -77,7 +74,6 @@ join-pair-requires c κs =
     let h : c .pair-from .result .higher ≡ higherAt file (turn .before .loop .k) = cc in
     let room = start .pre .1 .room in
     let kept = turn .before .loop .inv .2 in
-    let same = turn .before .before .before .before .before .own-sets .kept .0 in
     let d : c .pair-from .result .degree ≡ degreeAt file (turn .before .loop .k) = cc in
     ((omega arith, omega arith, omega arith), (omega arith, omega arith))
 
@@ -107,7 +103,7 @@ same-length c = search needs
 
 returns : tie.Need-returns Inv-loop μ-loop
 returns c =
-    let start = c .before .before .before .before .before .before .before .before .before .before in
+    let start = c .before .before .before .before .before .before in
     let file = now (start .args .file) in
     let e : c .before .loop .k ≡ pairCount file = omega arith in
     near-all file (start .args .cut) (start .pre .0 .0) (start .pre .0 .1) (start .pre .0 .2) _ (rw e at (c .before .loop .inv .3))
@@ -119,7 +115,6 @@ near-sets-spec =
     Inv-loop
     μ-loop
     symbol-count-requires
-    own-sets-requires
     cast-at
     add-at
     pair-count-requires

@@ -27,12 +27,15 @@ shared-slice-read-set-of c = search needs
 set-of-requires : tie.Need-set-of-requires
 set-of-requires c κs =
     let s = c .before .before .before .before in
-    s .pre .0 (s .args .start + s .args .k) (omega (arith, s .pre .1)) .0
+    let kept = s .pre .0 (s .args .start + s .args .k) (omega (arith, s .pre .1)) in
+    (kept .0, kept .2)
 
 returns-2 : tie.Need-returns-2
 returns-2 c T cut known =
     let n : length (c .set-of .result .words) ≡ setWords = search needs in
-    near-inside T _ _ _ _ _ _ (omega arith) (near-members known _ _ n (c .set-of .ensures))
+    let s = c .before .before .before .before .before in
+    let symbol = known .symbols (s .args .start + s .args .k) (omega (arith, s .pre .1)) in
+    near-inside T _ _ _ _ _ _ (omega arith) (near-members known _ symbol _ n (c .set-of .ensures))
 
 pub near-at-spec : {M : Type 1} → statement M
 near-at-spec =

@@ -1,11 +1,10 @@
 -- The loop keeps the least and the most that the symbols below s share, of those that are in the set, and s is in the set itself, or past
--- all of it; and all that are in it are below the number of symbols.
+-- all symbols.
 use borrow.Author.Needs.{needs}
 use mathlib.Core.Path.{_≡_, refl}
 use mathlib.Core.Bool.{true}
 use Prim.Native.Nat.{_<_, _-_}
 use native.Mathlib.Omega.{arith}
-use Rattle.meaning.specs.Limits.{setRoom}
 use Rattle.meaning.specs.File.{tableIn}
 use Rattle.meaning.specs.Buffers.{member}
 use Rattle.positions.proofs.Standing.{RatedBelow, rated-in, rated-out, rated-all}
@@ -14,7 +13,7 @@ use Rattle.positions.proofs.shared_degrees.Tie as tie
 
 abbrev Inv-loop : tie.InvT-loop
 Inv-loop table heading starts sizes count k set symbols pairs lowest₀ highest₀ s₀ lowest highest s =
-    (s < setRoom → member (set .words) s ≡ true) × RatedBelow (tableIn table) heading starts sizes k count (set .words) s lowest highest
+    (s < symbols → member (set .words) s ≡ true) × RatedBelow (tableIn table) heading starts sizes k count (set .words) s lowest highest
 
 abbrev μ-loop : tie.MeasureT-loop
 μ-loop table heading starts sizes count k set symbols pairs lowest₀ highest₀ s₀ lowest highest s = symbols - s
@@ -57,7 +56,7 @@ loop-again c =
     let a = c .before .before .before .before .before .before .before .before .before .before .before .before .before .args in
     let T = tableIn (a .table .now) in
     let now = c .before .before .before .before .before .loop .inv in
-    let here = now .0 (omega (arith, c .before .before .before .before .before .before .before .before .symbol-count .ensures)) in
+    let here = now .0 (omega arith) in
     let more = rated-in T _ _ _ (a .k) _ _ _ _ _ _ _ _ here (c .before .before .before .shared-at .ensures) (c .before .before .lesser .ensures) (c .before .greater .ensures) (now .1) in
     let found = c .next2 .ensures in
     (found .is, rated-out T _ _ _ (a .k) _ _ _ _ _ _ (found .not-below) (found .none) more)

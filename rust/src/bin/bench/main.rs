@@ -4,7 +4,7 @@
 mod build;
 mod workloads;
 
-use shuuxideg::{plain, proved, Answer, MatchHeading, WriteTable};
+use shuuxideg::{plain, proved, Answer, MatchHeading, Widen, WriteTable};
 use std::time::Instant;
 use workloads::{workloads, Workload};
 
@@ -16,6 +16,7 @@ pub struct Calls {
     pub heading_degree: HeadingDegree,
     pub match_heading: MatchHeading,
     pub write_table: WriteTable,
+    pub widen: Widen,
 }
 
 type HeadingDegree = fn(&[u8], &[u16], &[u16]) -> Answer<u16>;
@@ -26,6 +27,7 @@ static OURS: Calls = Calls {
     heading_degree: proved::heading_degree,
     match_heading: proved::match_heading,
     write_table: proved::write_table,
+    widen: proved::widen,
 };
 
 static PLAIN: Calls = Calls {
@@ -34,6 +36,7 @@ static PLAIN: Calls = Calls {
     heading_degree: plain::heading_degree,
     match_heading: plain::match_heading,
     write_table: plain::write_table,
+    widen: plain::widen,
 };
 
 /// The calls as something that the compiler knows nothing about.

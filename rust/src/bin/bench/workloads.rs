@@ -2,7 +2,7 @@
 
 use crate::build::{Draw, Table};
 use crate::Calls;
-use shuuxideg::{MAX_NODES, VARIABLE};
+use shuuxideg::{MAX_NODES, SAVED_WORDS, VARIABLE, WORDS};
 
 pub struct Workload {
     pub name: &'static str,
@@ -150,6 +150,17 @@ fn writer() -> Workload {
     Workload { name: "writer", title: "table writer, 8,192 pairs", times: LARGE, once: Box::new(once) }
 }
 
+/// The sets of a saved answer of 1,024 positions.
+fn converter() -> Workload {
+    let words: Vec<u64> = (0..SAVED_WORDS * MAX_NODES).map(|i| i as u64).collect();
+    let mut out = vec![0; WORDS * MAX_NODES];
+    let once = move |calls: &Calls| {
+        let written = (calls.widen)(&words, &mut out).unwrap();
+        written as u64 ^ out[WORDS + 1]
+    };
+    Workload { name: "converter", title: "converter, 1,024 positions", times: 10 * LARGE, once: Box::new(once) }
+}
+
 pub fn workloads() -> Vec<Workload> {
     let large = Table::of_256_symbols(8192);
     let (first, second) = long_headings(&large);
@@ -179,5 +190,6 @@ pub fn workloads() -> Vec<Workload> {
         clash(false).workload("clash-early", "match, 1,024 nodes, clash at the second", LARGE),
         clash(true).workload("clash-late", "match, 1,024 nodes, clash at the last", LARGE),
         writer(),
+        converter(),
     ]
 }

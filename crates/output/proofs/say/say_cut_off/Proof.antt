@@ -1,8 +1,10 @@
 -- Behind the title there is room for the words.
 use borrow.Author.Needs.{needs}
 use mathlib.Core.Path.{subst}
+use Prim.Native.Nat.{_-_}
 use native.Mathlib.Omega.{arith}
-use Rattle.output.specs.Titles.{Roomy}
+use Rattle.lines.specs.Lines.{lineRoom}
+use Rattle.output.specs.Titles.{titleRoom, Roomy}
 use Rattle.output.proofs.say.say_cut_off.Statement.{statement}
 use Rattle.output.proofs.say.say_cut_off.Tie as tie
 
@@ -18,7 +20,7 @@ slice-aggregate-put-text c = search needs
 put-text-requires : tie.Need-put-text-requires
 put-text-requires c κs =
     let title = c .before .before .before .before .before .before .before .say-title in
-    omega (arith, subst (Roomy _ 2018) (c .before .before .before .at .given .1) (title .ensures), title .kept .1 .0)
+    omega (arith, subst (Roomy _ (lineRoom - titleRoom)) (c .before .before .before .at .given .1) (title .ensures), title .kept .1 .0)
 
 enum-told : tie.Need-enum-told
 enum-told c = search needs

@@ -2,6 +2,7 @@
 use borrow.Author.Needs.{needs}
 use mathlib.Core.Path.{subst}
 use native.Mathlib.Omega.{arith}
+use Rattle.lines.specs.Lines.{lineRoom}
 use Rattle.output.specs.Titles.{Roomy}
 use Rattle.output.proofs.say.say_title.Statement.{statement}
 use Rattle.output.proofs.say.say_title.Tie as tie
@@ -13,7 +14,7 @@ enum-known-at : tie.Need-enum-known-at
 enum-known-at c = search needs
 
 put-title-requires : tie.Need-put-title-requires
-put-title-requires c κs = subst (Roomy _ 2048) (c .before .before .at .given .1) (c .before .before .before .before .make-room .ensures)
+put-title-requires c κs = subst (Roomy _ lineRoom) (c .before .before .at .given .1) (c .before .before .before .before .make-room .ensures)
 
 enum-told : tie.Need-enum-told
 enum-told c = search needs
@@ -23,7 +24,7 @@ same-length c = search needs
 
 returns : tie.Need-returns
 returns c =
-    let room = subst (Roomy _ 2048) (c .before .before .before .before .before .at .given .1) (c .before .before .before .before .before .before .before .make-room .ensures) in
+    let room = subst (Roomy _ lineRoom) (c .before .before .before .before .before .at .given .1) (c .before .before .before .before .before .before .before .make-room .ensures) in
     omega (arith, room, c .before .before .put-title .ensures)
 
 same-length-2 : tie.Need-same-length-2

@@ -1,10 +1,12 @@
 -- A refusal has no variables, so the buffers are empty ones.
 use borrow.Author.Needs.{needs}
 use mathlib.Core.Path.{subst}
+use Prim.Native.Nat.{_-_}
 use native.Mathlib.Omega.{arith}
 use Rattle.lines.proofs.Spans.{zeros-spanned}
 use Rattle.output.specs.Pendings.{Standing}
-use Rattle.output.specs.Titles.{Roomy}
+use Rattle.lines.specs.Lines.{lineRoom}
+use Rattle.output.specs.Titles.{titleRoom, Roomy}
 use Rattle.output.proofs.say.say_too_long.Statement.{statement}
 use Rattle.output.proofs.say.say_too_long.Tie as tie
 
@@ -23,7 +25,7 @@ slice-aggregate-put-answer-2 c = search needs
 put-answer-requires : tie.Need-put-answer-requires
 put-answer-requires c κs =
     let title = c .before .before .before .before .before .before .before .before .say-title in
-    let room = subst (Roomy _ 2018) (c .before .before .before .before .at .given .1) (title .ensures) in
+    let room = subst (Roomy _ (lineRoom - titleRoom)) (c .before .before .before .before .at .given .1) (title .ensures) in
     (zeros-spanned 128 _ (omega arith), omega (arith, room, title .kept .1 .0), omega (arith, title .kept .1 .0))
 
 enum-told : tie.Need-enum-told

@@ -1,9 +1,11 @@
 -- The title leaves the buffer as long as it was.
 use borrow.Author.Needs.{needs}
 use mathlib.Core.Path.{subst}
+use Prim.Native.Nat.{_-_}
 use native.Mathlib.Omega.{arith}
+use Rattle.lines.specs.Lines.{lineRoom}
 use Rattle.output.specs.Pendings.{Standing}
-use Rattle.output.specs.Titles.{Roomy}
+use Rattle.output.specs.Titles.{titleRoom, Roomy}
 use Rattle.question.proofs.serving.say_answer.Statement.{statement}
 use Rattle.question.proofs.serving.say_answer.Tie as tie
 
@@ -16,7 +18,7 @@ enum-known-at c = search needs
 serve-requires : tie.Need-serve-requires
 serve-requires c κs =
     let title = c .before .before .before .before .before .before .before .say-title in
-    let room = subst (Roomy _ 2018) (c .before .before .before .at .given .1) (title .ensures) in
+    let room = subst (Roomy _ (lineRoom - titleRoom)) (c .before .before .before .at .given .1) (title .ensures) in
     (omega arith, omega (arith, room, title .kept .1 .0), omega (arith, title .kept .1 .0))
 
 enum-told : tie.Need-enum-told

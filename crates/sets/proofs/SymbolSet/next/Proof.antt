@@ -11,10 +11,10 @@ use Rattle.sets.proofs.SymbolSet.next.Statement.{statement}
 use Rattle.sets.proofs.SymbolSet.next.Tie as tie
 
 abbrev Inv-loop : tie.InvT-loop
-Inv-loop from words k₀ k = (from ≤ k) × (k ≤ setRoom) × NoneBetween words from k
+Inv-loop from end words k₀ k = (from ≤ k) × (k ≤ setRoom) × NoneBetween words from k
 
 abbrev μ-loop : tie.MeasureT-loop
-μ-loop from words k₀ k = setRoom - k
+μ-loop from end words k₀ k = setRoom - k
 
 loop-holds : tie.Need-loop-holds Inv-loop μ-loop
 loop-holds c = (omega arith, omega arith, λ k l m. absurd (omega arith))
@@ -46,7 +46,8 @@ returns : tie.Need-returns Inv-loop μ-loop
 returns c =
     let a = c .before .before .before .before .args in
     let loop = c .before .before .loop in
-    found-in-word (a .self .words) (a .from) (loop .k) setWords (search (needs, words-of)) (omega arith) (omega arith) (omega (arith, c .if1 .taken)) (loop .inv .2)
+    let found = found-in-word (a .self .words) (a .from) (loop .k) setWords (search (needs, words-of)) (omega arith) (omega arith) (omega (arith, c .if1 .taken)) (loop .inv .2) in
+    record { not-below = found .not-below; none = found .none; is = λ l. found .is (omega arith) }
 
 add-k : tie.Need-add-k Inv-loop μ-loop
 add-k c = search needs
@@ -66,7 +67,7 @@ loop-again c =
 returns-2 : tie.Need-returns-2 Inv-loop μ-loop
 returns-2 c =
     let loop = c .before .loop in
-    record { not-below = loop .inv .0; room = loop .inv .1; none = loop .inv .2; is = λ l. absurd (omega arith) }
+    record { not-below = loop .inv .0; none = loop .inv .2; is = λ l. absurd (omega arith) }
 
 pub next-spec : {M : Type 1} → statement M
 next-spec =

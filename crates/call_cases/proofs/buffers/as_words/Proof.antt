@@ -3,8 +3,8 @@ use Prim.Native.Nat.{_≤_, _-_}
 use mathlib.Core.Path.{_≡_}
 use lib.ListN.{length}
 use borrow.Author.Needs.{needs}
-use Rattle.call_cases.proofs.buffers.widen.Statement.{statement}
-use Rattle.call_cases.proofs.buffers.widen.Tie as tie
+use Rattle.call_cases.proofs.buffers.as_words.Statement.{statement}
+use Rattle.call_cases.proofs.buffers.as_words.Tie as tie
 
 abbrev Inv-loop : tie.InvT-loop
 Inv-loop numbers words₀ i₀ i-end words i = (i-end ≤ length numbers) × (i-end ≤ length words₀) × (length words ≡ length words₀)
@@ -48,8 +48,8 @@ same-length c = search needs
 returns : tie.Need-returns Inv-loop μ-loop
 returns c = search needs
 
-pub widen-spec : {M : Type 1} → statement M
-widen-spec =
+pub as-words-spec : {M : Type 1} → statement M
+as-words-spec =
     tie.close
     (tie.spec
     Inv-loop
