@@ -3,17 +3,18 @@
 use mathlib.Core.Path.{_≡_, refl, sym, ap, subst, _∙_}
 use mathlib.Core.List.{List, [], _∷_, _++_, map, map-append, append-nil, append-assoc}
 use mathlib.Core.Bool.{true, false, cond}
-use Prim.Native.Nat.{ℕ, _+_, _/_, _%_, _≤_, _<_}
+use Prim.Native.Nat.{ℕ, zero, suc, _+_, _-_, _*_, _/_, _%_, _≤_, _<_}
 use native.Mathlib.Numerals.{add-one}
 use native.Mathlib.Decide.{decLt}
 use native.Mathlib.Omega.{arith}
 use lib.Dec.{eqb}
-use lib.ListN.{length, length-append}
+use lib.ListN.{length, getD, length-append}
 use borrow.Author.Tests.{eq-eqb, ne-eqb, lt-ltb, le-ltb}
 use Rattle.theory.specs.Least.{collect}
-use Rattle.meaning.specs.Limits.{setRoom}
-use Rattle.meaning.specs.Buffers.{holds}
+use Rattle.meaning.specs.Limits.{wordBits, setWords, setRoom}
+use Rattle.meaning.specs.Buffers.{bit, member, holds}
 use Rattle.meaning.specs.Program.{digits, decimal, line}
+use Rattle.sets.specs.Words.{NoneBetween}
 use Rattle.text.specs.Texts.{PutBy, numeral}
 use Rattle.lines.specs.Lines.{symbolsLine}
 use Rattle.text.proofs.Puts.{put-then, digits-front}
@@ -90,10 +91,28 @@ module _ (sets : List ℕ) (p : ℕ) where
       let e : eqb at start ≡ eqb (length text) 0 = first-here start at (length text) (q .ends) in
       rw (symbols-more k h) (subst (λ z. PutBy a start (text ++ cond z (numeral k) (32 ∷ numeral k)) n d) e (put-then q r l))
 
-  -- LAW: any other is passed over
-  pub symbols-same : (k : ℕ) → holds sets p k ≡ false → symbolsBelow sets p (k + 1) ≡ symbolsBelow sets p k
+  -- any other is passed over
+  symbols-same : (k : ℕ) → holds sets p k ≡ false → symbolsBelow sets p (k + 1) ≡ symbolsBelow sets p k
   unfolding symbolsBelow
   symbols-same k e = rw (add-one k, e) (ap (λ xs. joined (map decimal xs)) (append-nil (collect k (holds sets p))))
+
+  symbols-skip : (from n : ℕ) → ((j : ℕ) → from ≤ j → j < from + n → holds sets p j ≡ false) → symbolsBelow sets p (from + n) ≡ symbolsBelow sets p from
+  symbols-skip from zero none = ap (symbolsBelow sets p) (omega arith)
+  symbols-skip from (suc n) none =
+      let next : from + suc n ≡ from + n + 1 = omega arith in
+      ap (symbolsBelow sets p) next ∙ symbols-same (from + n) (none (from + n) (omega arith) (omega arith)) ∙ symbols-skip from n (λ j l m. none j l (omega arith))
+
+  module _ (words : List ℕ) (read : (w : ℕ) → w < setWords → getD words w 0 ≡ getD sets (setWords * p + w) 0) where
+    -- LAW: words that are read from the position have the members that it has
+    pub held : (k : ℕ) → k < setRoom → holds sets p k ≡ member words k
+    unfolding holds member
+    held k l = ap (bit (k % wordBits)) (sym (read (k / wordBits) (omega arith)))
+
+    -- LAW: all symbols up to the next member are passed over
+    pub symbols-next : (from to : ℕ) → from ≤ to → to ≤ setRoom → NoneBetween words from to → symbolsBelow sets p to ≡ symbolsBelow sets p from
+    symbols-next from to l m none =
+        let e : to ≡ from + (to - from) = omega arith in
+        ap (symbolsBelow sets p) e ∙ symbols-skip from (to - from) (λ j a b. held j (omega arith) ∙ none j a (omega arith))
 
   -- LAW: all of them make the line
   pub symbols-all : symbolsLine sets p ≡ symbolsBelow sets p setRoom ++ (10 ∷ [])

@@ -5,8 +5,8 @@ ghost use mathlib.Core.Bool.{cond};
 ghost use Prim.Native.Nat.{_+_, _*_, _≤_, _<_};
 ghost use lib.Dec.{eqb};
 ghost use lib.ListN.{length};
-ghost use Rattle.meaning.specs.Limits.{setWords, setRoom, variableCount, spanWidth};
-ghost use Rattle.meaning.specs.Buffers.{firstPosition, positionCount, ownLowest, ownHighest, holds};
+ghost use Rattle.meaning.specs.Limits.{setWords, variableCount, spanWidth};
+ghost use Rattle.meaning.specs.Buffers.{firstPosition, positionCount, ownLowest, ownHighest};
 ghost use Rattle.meaning.specs.Program.{line};
 ghost use Rattle.text.specs.Texts.{PutBy, numeral};
 ghost use Rattle.lines.specs.Lines.{lineRoom, replyLine, variableLine, symbolsLine, seekFrom, afterReply, afterPosition, OnLine, Spanned, LineBy};
@@ -157,15 +157,6 @@ fn put_variable(out: &mut [u8], at: usize, spans: &[u16], v: u16) -> usize
     put_numbers(out, lowest_at, lowest, highest)
 }
 
-// Whether symbol k is in the set at a position.
-fn in_set(sets: &[u64], position: usize, k: u16) -> bool
-    requires { ⌜ (setWords * (position + 1) ≤ length (now sets)) × (k < setRoom) ⌝ }
-    ensures { λ r. ⌜ r ≡ holds (now (sets .entry)) position k ⌝ }
-{
-    let word = sets[SymbolSet::WORDS * position + (k / SymbolSet::BITS) as usize];
-    (word >> (k % SymbolSet::BITS)) % 2 == 1
-}
-
 // A number, with a space before it unless the line starts here.
 fn put_field(out: &mut [u8], start: usize, at: usize, n: u16) -> usize
     requires { ⌜ at + 6 ≤ length (now out) ⌝ }
@@ -183,11 +174,12 @@ fn put_symbols(out: &mut [u8], start: usize, sets: &[u64], position: usize) -> u
     requires { ⌜ (start + lineRoom ≤ length (now out)) × (setWords * (position + 1) ≤ length (now sets)) ⌝ }
     ensures { λ r. ⌜ PutBy (now (out .entry)) start (symbolsLine (now (sets .entry)) position) r (now (out .exit)) ⌝ }
 {
+    let set = SymbolSet::read(sets, SymbolSet::WORDS * position);
     let mut at = start;
-    for k in 0..SymbolSet::ROOM {
-        if in_set(sets, position, k) {
-            at = put_field(out, start, at, k);
-        }
+    let mut k = set.next(0, SymbolSet::ROOM);
+    while k < SymbolSet::ROOM {
+        at = put_field(out, start, at, k);
+        k = set.next(k + 1, SymbolSet::ROOM);
     }
     put_byte(out, at, 10)
 }

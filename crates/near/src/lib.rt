@@ -27,12 +27,7 @@ fn row_of(near: &[u64], h: u16) -> SymbolSet
     requires { ⌜ nearWords * (h + 1) ≤ length (now near) ⌝ }
     ensures { λ r. ⌜ ((k : ℕ) → k < setRoom → member (r .words) k ≡ inRow (now (near .entry)) h k) ⌝ }
 {
-    let at = NEAR_WORDS * h as usize;
-    let mut words = [0u64; SymbolSet::WORDS];
-    for i in 0..SymbolSet::WORDS {
-        words[i] = near[at + i];
-    }
-    SymbolSet { words }
+    SymbolSet::read(near, NEAR_WORDS * h as usize)
 }
 
 // The set of symbol h. The symbol itself joins only here, so that no symbol's row is touched but by a pair.

@@ -21,9 +21,10 @@ oneBit n k = set (zeros n) (k / wordBits) (2 ^ (k % wordBits))
 abbrev pub NoneBetween : List ℕ → ℕ → ℕ → Type 0
 NoneBetween ws from to = (k : ℕ) → from ≤ k → k < to → member ws k ≡ false
 
--- r is the least member that is not below `from`, if that is below `end`; else there is none from `from` on, below `end`
-pub record NextBelow (ws : List ℕ) (from end r : ℕ) : Type 0 where
+-- r is the least member of n words that is not below `from`, if that is below `end`; else there is none from `from` on, below `end`
+pub record NextBelow (n : ℕ) (ws : List ℕ) (from end r : ℕ) : Type 0 where
   pub not-below : from ≤ r
+  pub room : r ≤ wordBits * n
   pub none : NoneBetween ws from r
   pub is : r < end → member ws r ≡ true
 

@@ -1,12 +1,12 @@
 // Sets of symbols as words of bits, made, asked and combined by value.
 //
-// Contracts speak of members, but where words are put into a list. That the words themselves follow from the members is `same-set` of proofs/Laws.
+// Contracts speak of members, but where words are read from a list or put into one. That the words themselves follow from the members is `same-set` of proofs/Laws.
 ghost use mathlib.Core.Path.{_≡_};
 ghost use mathlib.Core.Bool.{true, false, _&&_, _||_};
 ghost use mathlib.Core.Logic.{_↔_};
 ghost use Prim.Native.Nat.{ℕ, _+_, _≤_, _<_};
 ghost use lib.Dec.{eqb};
-ghost use lib.ListN.{length};
+ghost use lib.ListN.{length, getD};
 ghost use Rattle.meaning.specs.Limits.{setWords, setRoom};
 ghost use Rattle.meaning.specs.Over.{over};
 ghost use Rattle.meaning.specs.Buffers.{member};
@@ -60,7 +60,7 @@ impl SymbolSet {
     // are not looked at, so that the symbols of a small table cost no more than they are.
     pub fn next(self, from: u16, end: u16) -> u16
         requires { ⌜ (from ≤ setRoom) × (end ≤ setRoom) ⌝ }
-        ensures { λ r. ⌜ NextBelow (self .words) from end r ⌝ }
+        ensures { λ r. ⌜ NextBelow setWords (self .words) from end r ⌝ }
     {
         let words = self.words;
         let mut k = from;
@@ -96,6 +96,18 @@ impl SymbolSet {
         let mut words = [0u64; SymbolSet::WORDS];
         for i in 0..SymbolSet::WORDS {
             words[i] = ours[i] | theirs[i];
+        }
+        SymbolSet { words }
+    }
+
+    // The set whose words a list has from index `at` on.
+    pub fn read(list: &[u64], at: usize) -> SymbolSet
+        requires { ⌜ at + setWords ≤ length (now list) ⌝ }
+        ensures { λ r. ⌜ ((w : ℕ) → w < setWords → getD (r .words) w 0 ≡ getD (now (list .entry)) (at + w) 0) ⌝ }
+    {
+        let mut words = [0u64; SymbolSet::WORDS];
+        for w in 0..SymbolSet::WORDS {
+            words[w] = list[at + w];
         }
         SymbolSet { words }
     }

@@ -96,7 +96,7 @@ fn of_own_degrees() {
     let calls: [MatchHeading; 2] = [proved::match_heading, plain::match_heading];
     for match_heading in calls {
         let spans_of = |cut, pattern: &[u16], heading: &[u16]| {
-            let (mut spans, mut sets) = ([9999; 128], vec![9999; 4 * heading.len()]);
+            let (mut spans, mut sets) = ([9999; 128], vec![9999; WORDS * heading.len()]);
             assert!(match_heading(&t, pattern, heading, cut, &mut spans, &mut sets).is_ok());
             spans
         };

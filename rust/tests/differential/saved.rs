@@ -22,7 +22,7 @@ fn any_words() {
 #[test]
 fn counts_and_rooms_at_the_limits() {
     let mut asked = 0;
-    for count in (0..14).chain([19, 20, 21, 4095, 4096, 4097, 4100]) {
+    for count in (0..14usize).chain([19, 20, 21, 4095, 4096, 4097, 4100]) {
         let words: Vec<u64> = (0..count).map(|i| u64::MAX - i as u64).collect();
         for room in [0, count, (2 * count).saturating_sub(1), 2 * count, 2 * count + 1, 2 * count + 100] {
             let fits = count % SAVED_WORDS == 0 && room >= 2 * count;

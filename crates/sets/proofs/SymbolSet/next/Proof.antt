@@ -47,7 +47,7 @@ returns c =
     let a = c .before .before .before .before .args in
     let loop = c .before .before .loop in
     let found = found-in-word (a .self .words) (a .from) (loop .k) setWords (search (needs, words-of)) (omega arith) (omega arith) (omega (arith, c .if1 .taken)) (loop .inv .2) in
-    record { not-below = found .not-below; none = found .none; is = λ l. found .is (omega arith) }
+    record { not-below = found .not-below; room = found .room; none = found .none; is = λ l. found .is (omega arith) }
 
 add-k : tie.Need-add-k Inv-loop μ-loop
 add-k c = search needs
@@ -67,7 +67,7 @@ loop-again c =
 returns-2 : tie.Need-returns-2 Inv-loop μ-loop
 returns-2 c =
     let loop = c .before .loop in
-    record { not-below = loop .inv .0; none = loop .inv .2; is = λ l. absurd (omega arith) }
+    record { not-below = loop .inv .0; room = loop .inv .1; none = loop .inv .2; is = λ l. absurd (omega arith) }
 
 pub next-spec : {M : Type 1} → statement M
 next-spec =
