@@ -3,6 +3,7 @@
 A group adds its cases to the collector that it is given, with the answer where it is known from another source than the reference.
 """
 import reference
+from call_cases import GUARD, SETS
 from drawing import X, with_byte
 from reference import MOST_PAIRS, MOST_SYMBOLS, SAVED, WORDS, table_bytes
 
@@ -182,11 +183,11 @@ def nearest(cases):
 def rooms(cases):
     """Buffers that are too short, just long enough and longer; after every kind of answer."""
     for spans, sets, told in ((127, 40, 'refused 8 0'), (128, 39, 'refused 8 0'), (128, 40, 'match 600 700'), (129, 40, 'match 600 700'),
-                              (128, 41, 'match 600 700'), (135, 8207, 'match 600 700'), (0, 40, 'refused 8 0'), (128, 0, 'refused 8 0'),
-                              (0, 0, 'refused 8 0'), (135, 39, 'refused 8 0'), (127, 8207, 'refused 8 0'), (64, 40, 'refused 8 0'),
+                              (128, 41, 'match 600 700'), (135, SETS - 1, 'match 600 700'), (0, 40, 'refused 8 0'), (128, 0, 'refused 8 0'),
+                              (0, 0, 'refused 8 0'), (135, 39, 'refused 8 0'), (127, SETS - 1, 'refused 8 0'), (64, 40, 'refused 8 0'),
                               (128, 20, 'refused 8 0')):
         cases.match(T, PATTERN, HEADING, 600, told, spans, sets)
-    for spans, sets in (128, 40), (135, 8207), (0, 0):
+    for spans, sets in (128, 40), (135, SETS - 1), (0, 0):
         enough = sets >= 40
         cases.match(T[:65], PATTERN, HEADING, 600, 'refused 1 0', spans, sets)
         cases.match(T, PATTERN, HEADING, 0, 'refused 5 0', spans, sets)
@@ -418,11 +419,11 @@ def many(cases):
                     [5 + i % 32 % 3 if node == 5 else node for i, node in enumerate(shape)], 800, 'match 800 1000')
     long = sized_term(1024)
     cases.match(T, [X], long, 500)
-    cases.match(T, [X], long, 1000, spans=135, sets=8207)
+    cases.match(T, [X], long, 1000, spans=135, sets=SETS - 1)
     cases.match(T, long, long, 1000, 'match 1000 1000')
     cases.match(T, long[:-1] + [X + 5], long, 700, 'match 700 1000')
     cases.match(T, long[:-1] + [6], long, 501, 'refused 9 1023')
-    cases.match(T, [X], long, 500, 'refused 8 0', sets=8191)
+    cases.match(T, [X], long, 500, 'refused 8 0', sets=WORDS * 1024 - 1)
     half = sized_term(511)
     cases.match(T, [1, 0, X, X], [1, 0] + half + half, 600)
     cases.match(T, [1, 0, X, X], [1, 0] + half + half[:-1] + [6], 600, 'match 700 700')
@@ -465,25 +466,30 @@ def saved_words(match, positions):
     return [word for at in range(0, len(today), WORDS) for word in today[at:at + SAVED]]
 
 
+def behind(at):
+    """What a longer output holds from there on: what it held."""
+    return '%d-%d:%d' % (at, SETS - 1, GUARD)
+
+
 def saved(cases):
     listing = [24, 0, 0, 0, 128, 0, 0, 0] + [0] * 12
-    cases.widen(listing, 40, 'written 40 output 0:24 8:128 40-8207:9999')
-    cases.widen(listing, 43, 'written 40 output 0:24 8:128 40-8207:9999')
+    cases.widen(listing, 40, 'written 40 output 0:24 8:128 ' + behind(40))
+    cases.widen(listing, 43, 'written 40 output 0:24 8:128 ' + behind(40))
     for room in 39, 20, 0:
-        cases.widen(listing, room, 'refused 8 0 output 0-8207:9999')
+        cases.widen(listing, room, 'refused 8 0 output ' + behind(0))
     for count in 1, 2, 3, 5, 6, 7, 17, 18, 19, 21:
         for room in 2 * count, 8200, 2 * count - 1:
-            cases.widen([7] * count, room, 'refused 8 0 output 0-8207:9999')
+            cases.widen([7] * count, room, 'refused 8 0 output ' + behind(0))
     for room in 0, 1, 8:
-        cases.widen([], room, 'written 0 output 0-8207:9999')
+        cases.widen([], room, 'written 0 output ' + behind(0))
     top = (1 << 64) - 1
-    cases.widen([top] * 4, 8, 'written 8 output 0-3:%d 8-8207:9999' % top)
-    cases.widen([top] * 8, 17, 'written 16 output 0-3:%d 8-11:%d 16-8207:9999' % (top, top))
-    cases.widen([1, 1 << 63, 3, 1 << 32], 9, 'written 8 output 0:1 1:%d 2:3 3:%d 8-8207:9999' % (1 << 63, 1 << 32))
+    cases.widen([top] * 4, 8, 'written 8 output 0-3:%d ' % top + behind(8))
+    cases.widen([top] * 8, 17, 'written 16 output 0-3:%d 8-11:%d ' % (top, top) + behind(16))
+    cases.widen([1, 1 << 63, 3, 1 << 32], 9, 'written 8 output 0:1 1:%d 2:3 3:%d ' % (1 << 63, 1 << 32) + behind(8))
     cases.widen(list(range(1, 41)), 80)
     cases.widen([5] * 4096, 8192)
-    cases.widen([5] * 4096, 8191, 'refused 8 0 output 0-8207:9999')
-    cases.widen([5] * 4097, 8200, 'refused 8 0 output 0-8207:9999')
+    cases.widen([5] * 4096, 8191, 'refused 8 0 output ' + behind(0))
+    cases.widen([5] * 4097, 8200, 'refused 8 0 output ' + behind(0))
     # a saved answer, converted, is today's
     for table, pattern, heading, cut in ((T, PATTERN, HEADING, 600), (T, PATTERN, HEADING, 500), (wide_table(), [0, X], [1, 127], 600),
                                          (wide_table(), [X], [255], 1), (T, [X], sized_term(200), 500)):

@@ -106,8 +106,8 @@ impl SymbolSet {
         ensures { λ r. ⌜ ((w : ℕ) → w < setWords → getD (r .words) w 0 ≡ getD (now (list .entry)) (at + w) 0) ⌝ }
     {
         let mut words = [0u64; SymbolSet::WORDS];
-        for w in 0..SymbolSet::WORDS {
-            words[w] = list[at + w];
+        for j in 0..SymbolSet::WORDS {
+            words[j] = list[at + j];
         }
         SymbolSet { words }
     }

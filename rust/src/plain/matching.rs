@@ -4,7 +4,7 @@
 use super::facing::{Facing, Walk};
 use super::near::{for_members, gather, intersect, Near};
 use super::refuse;
-use super::table::{Table, TOP};
+use super::table::{Table, MAX_SYMBOLS, TOP};
 use crate::{Answer, Degrees, MAX_NODES, SPAN, WORDS};
 
 pub struct Question<'a> {
@@ -48,7 +48,7 @@ impl<'a> Question<'a> {
             0..=16 => self.settle::<16>(&walk, spans, sets),
             17..=64 => self.settle::<64>(&walk, spans, sets),
             65..=256 => self.settle::<256>(&walk, spans, sets),
-            _ => self.settle::<512>(&walk, spans, sets),
+            _ => self.settle::<MAX_SYMBOLS>(&walk, spans, sets),
         }
     }
 

@@ -1,7 +1,7 @@
 //! The table file: its check, in one pass, and what is looked up in it.
 
 use super::refuse;
-use crate::{Answer, Pair};
+use crate::{Answer, Pair, WORDS};
 
 /// The highest degree: of a symbol with itself.
 pub const TOP: u16 = 1000;
@@ -12,7 +12,8 @@ pub const HEADER: usize = 10;
 /// How many bytes a pair has.
 pub const PAIR: usize = 6;
 
-const MAX_SYMBOLS: usize = 512;
+/// A set has a bit for each symbol.
+pub const MAX_SYMBOLS: usize = 64 * WORDS;
 const MAX_PAIRS: usize = 8192;
 const MAX_ARITY: u8 = 8;
 

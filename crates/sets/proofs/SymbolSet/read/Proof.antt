@@ -1,4 +1,4 @@
--- After w turns the first w words are those of the list.
+-- After j turns the first j words are those of the list.
 use borrow.Author.Needs.{needs}
 use mathlib.Core.Path.{_≡_, _∙_}
 use mathlib.Core.List.{List}
@@ -27,10 +27,10 @@ copied-more list at words i l c = record { long = length-set words i (getD list 
         rw q (getD-set-same words i (getD list (at + i) 0) 0 (omega (arith, c .long)))
 
 abbrev Inv-loop : tie.InvT-loop
-Inv-loop list at words₀ w₀ words w = Copied list at words w
+Inv-loop list at words₀ j₀ words j = Copied list at words j
 
 abbrev μ-loop : tie.MeasureT-loop
-μ-loop list at words₀ w₀ words w = setWords - w
+μ-loop list at words₀ j₀ words j = setWords - j
 
 loop-holds : tie.Need-loop-holds Inv-loop μ-loop
 loop-holds c = record { long = search needs; same = λ j l. absurd (not-suc-le-zero l) }
@@ -50,8 +50,8 @@ mul-words-2 c = search needs
 array-write-words : tie.Need-array-write-words Inv-loop μ-loop
 array-write-words c = search needs
 
-add-w : tie.Need-add-w Inv-loop μ-loop
-add-w c = search needs
+add-j : tie.Need-add-j Inv-loop μ-loop
+add-j c = search needs
 
 loop-less : tie.Need-loop-less Inv-loop μ-loop
 loop-less c = search needs
@@ -74,7 +74,7 @@ read-spec =
     shared-slice-read-words
     mul-words-2
     array-write-words
-    add-w
+    add-j
     loop-less
     loop-again
     returns)
