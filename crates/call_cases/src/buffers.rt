@@ -6,7 +6,7 @@ use crate::input::Asked;
 use crate::input::least;
 use crate::say;
 use matches::match_heading;
-use matching::search::Outcome;
+use refusal::Outcome;
 use sets::SymbolSet;
 
 // Above every number of a span.

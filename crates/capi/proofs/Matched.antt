@@ -6,9 +6,9 @@ use Prim.Native.Nat.{ℕ}
 use Rattle.meaning.specs.Calls.{Answer, Degrees, degrees, gives, lowestIn, highestIn, matched}
 use Rattle.refusal.specs.Told.{told, refusedBy}
 use Rattle.refusal.specs.declared.Refusal.{Refusal}
-use Rattle.matching.specs.Outcomes.{saidMatch}
-use Rattle.matching.specs.declared.search.Outcome.{Outcome}
-use Rattle.matching.specs.declared.search.Outcome.the-variants.{Match, Refused}
+use Rattle.refusal.specs.Outcomes.{saidMatch}
+use Rattle.refusal.specs.declared.Outcome.{Outcome}
+use Rattle.refusal.specs.declared.Outcome.the-variants.{Match, Refused}
 use Rattle.matches.specs.Matching.{MatchHeading}
 use Rattle.capi.specs.Answers.{codeOf}
 use Rattle.capi.specs.Matching.{ShxMatch}

@@ -7,7 +7,7 @@ use native.Mathlib.Omega.{arith}
 use Rattle.meaning.specs.Refusals.{Refusal as Given, refusal, numberOf, placeOf}
 use Rattle.refusal.specs.Told.{told}
 use Rattle.refusal.specs.declared.Refusal.{Refusal}
-use Rattle.refusal.specs.declared.Refusal.the-variants.{Layout, Counts, Arity, Pair as BadPair, Cut, Pattern, Heading, Room, Clash, NoForm, NoSymbol, Absent}
+use Rattle.refusal.specs.declared.Refusal.the-variants.{Layout, Counts, Arity, Pair as BadPair, Cut, Pattern, Heading, Room, Clash, NoForm, Misshapen, NoSymbol, Absent}
 use Rattle.table.specs.declared.read.Pair.{Pair}
 use Rattle.capi.specs.Answers.{codeOf}
 use Rattle.capi.specs.Tables.{ShxTable, ShxSymbolDegree, ShxArity, ShxPair}
@@ -83,6 +83,7 @@ numbered (Heading node) = (omega arith, omega arith)
 numbered Room = (omega arith, omega arith)
 numbered (Clash node) = (omega arith, omega arith)
 numbered (NoForm variable) = (omega arith, omega arith)
+numbered Misshapen = (omega arith, omega arith)
 numbered (NoSymbol place) = (omega arith, omega arith)
 numbered Absent = (omega arith, omega arith)
 

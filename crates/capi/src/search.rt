@@ -2,7 +2,7 @@
 ghost use Rattle.capi.specs.Matching.{ShxMatch};
 use crate::answer::refused;
 use matches::match_heading;
-use matching::search::Outcome;
+use refusal::Outcome;
 
 // The match, with its degrees; 0 and 0 where it is refused.
 #[no_mangle]

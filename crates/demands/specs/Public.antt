@@ -5,8 +5,8 @@ use Rattle.meaning.specs.File.{numbersOf}
 use Rattle.meaning.specs.Calls.{subterm, nearer}
 use Rattle.writer.specs.Said.{said}
 use Rattle.writer.specs.declared.Writing.{Writing}
-use Rattle.matching.specs.Outcomes.{resultOf}
-use Rattle.matching.specs.declared.search.Outcome.{Outcome}
+use Rattle.refusal.specs.Outcomes.{resultOf}
+use Rattle.refusal.specs.declared.Outcome.{Outcome}
 use Rattle.tables.specs.declared.TableAnswer.{TableAnswer}
 use Rattle.tables.specs.declared.DegreeAnswer.{DegreeAnswer}
 use Rattle.tables.specs.declared.ArityAnswer.{ArityAnswer}

@@ -5,7 +5,7 @@ use mathlib.Core.List.{List}
 use Prim.Native.Nat.{ℕ}
 use denote.Ref.{now, ptr}
 use Rattle.writer.specs.declared.Writing.{Writing}
-use Rattle.matching.specs.declared.search.Outcome.{Outcome}
+use Rattle.refusal.specs.declared.Outcome.{Outcome}
 use Rattle.tables.specs.declared.TableAnswer.{TableAnswer}
 use Rattle.tables.specs.declared.DegreeAnswer.{DegreeAnswer}
 use Rattle.tables.specs.declared.ArityAnswer.{ArityAnswer}

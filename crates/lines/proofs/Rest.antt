@@ -14,23 +14,25 @@ use borrow.Author.Tests.{eq-eqb, ne-eqb, lt-ltb, le-ltb}
 use Rattle.theory.specs.Least.{collect}
 use Rattle.meaning.specs.Limits.{setRoom, variableCount}
 use Rattle.meaning.specs.Packing.{through}
-use Rattle.meaning.specs.Calls.{Matched}
+use Rattle.meaning.specs.Refusals.{Refusal, refusal, numberOf, placeOf}
+use Rattle.meaning.specs.Calls.{Matched, refusedAs}
 use Rattle.meaning.specs.Buffers.{firstPosition, positionCount, ownLowest, ownHighest, holds}
-use Rattle.meaning.specs.Program.{decimal, matchWord, refusedWord, variableWord, variableLines}
-use Rattle.lines.specs.declared.line.Reply.{Reply}
-use Rattle.lines.specs.declared.line.Reply.the-variants.{Match, Refused}
+use Rattle.meaning.specs.Program.{decimal, matchWord, refusedWord, variableWord, variableLines, refusedText, textOf}
+use Rattle.refusal.specs.declared.Outcome.{Outcome}
+use Rattle.refusal.specs.declared.Outcome.the-variants.{Match, Refused}
+use Rattle.refusal.specs.Told.{told}
+use Rattle.refusal.specs.Outcomes.{resultOf}
 use Rattle.lines.specs.declared.line.Cursor.{Cursor}
 use Rattle.lines.specs.declared.line.Cursor.the-variants.{First, Variable, Position, End}
 use Rattle.lines.specs.Lines.{
   textIn,
-  matchedBy,
-  replyLine,
+  outcomeLine,
   variableLine,
   symbolsLine,
   lineAt,
   seekIn,
   seekFrom,
-  afterReply,
+  afterOutcome,
   afterPosition,
   nextCursor,
   OnLine,
@@ -65,12 +67,12 @@ module _ (f : ℕ → List ℕ) where
       let s : suc i ≡ i + 1 = omega arith in
       rw e (ap (λ j. f i ++ upward j (n - (i + 1)) f) s)
 
-module _ (reply : Reply) (spans sets : List ℕ) where
+module _ (outcome : Outcome) (spans sets : List ℕ) where
   abbrev r : Matched
-  r = matchedBy reply spans sets
+  r = resultOf outcome spans sets
 
   abbrev rest : Cursor → List ℕ
-  rest = restAt reply spans sets
+  rest = restAt outcome spans sets
 
   -- the lines of a variable that has positions, and of one that has none
   pub some-lines : (v : ℕ) → 0 < positionCount spans v → variableLines r v ≡ variableLine spans v ++ positionsFrom spans sets v 0
@@ -123,38 +125,42 @@ module _ (reply : Reply) (spans sets : List ℕ) where
           let f : ℕ → List ℕ = λ i. symbolsLine sets (firstPosition spans v + i) in
           ap (λ n. upward (k + 1) n f ++ variablesFrom r (v + 1)) no-more ∙ rest-from (v + 1) (omega arith) ∙ ap after (sym (le-ltb (k + 1) count (omega arith)))
 
-rest-first : (reply : Reply) (spans sets : List ℕ) → following reply spans sets ≡ restAt reply spans sets (afterReply reply spans)
-unfolding afterReply restAt
+rest-first : (outcome : Outcome) (spans sets : List ℕ) → following outcome spans sets ≡ restAt outcome spans sets (afterOutcome outcome spans)
+unfolding afterOutcome restAt
 rest-first (Match low high) spans sets = rest-from (Match low high) spans sets 0 (omega arith)
-rest-first (Refused n place) spans sets = refl
+rest-first (Refused why) spans sets = refl
 
-module _ (reply : Reply) (spans sets : List ℕ) where
+module _ (outcome : Outcome) (spans sets : List ℕ) where
   -- LAW: the line at a cursor, and then what is left at the next one
-  pub rest-next : (cursor : Cursor) → OnLine spans cursor → restAt reply spans sets cursor ≡ lineAt reply spans sets cursor ++ restAt reply spans sets (nextCursor reply spans cursor)
+  pub rest-next : (cursor : Cursor) → OnLine spans cursor → restAt outcome spans sets cursor ≡ lineAt outcome spans sets cursor ++ restAt outcome spans sets (nextCursor outcome spans cursor)
   unfolding lineAt nextCursor restAt
-  rest-next First on = ap (λ t. replyLine reply ++ t) (rest-first reply spans sets)
+  rest-next First on = ap (λ t. outcomeLine outcome ++ t) (rest-first outcome spans sets)
   rest-next (Variable v) on =
-      let f = variableLines (matchedBy reply spans sets) in
+      let f = variableLines (resultOf outcome spans sets) in
       upward-first f v variableCount (on .0)
-      ∙ ap (λ t. t ++ variablesFrom (matchedBy reply spans sets) (v + 1)) (some-lines reply spans sets v (on .1))
-      ∙ append-assoc (variableLine spans v) (positionsFrom spans sets v 0) (variablesFrom (matchedBy reply spans sets) (v + 1))
+      ∙ ap (λ t. t ++ variablesFrom (resultOf outcome spans sets) (v + 1)) (some-lines outcome spans sets v (on .1))
+      ∙ append-assoc (variableLine spans v) (positionsFrom spans sets v 0) (variablesFrom (resultOf outcome spans sets) (v + 1))
   rest-next (Position v k) on =
       let f : ℕ → List ℕ = λ i. symbolsLine sets (firstPosition spans v + i) in
-      ap (λ t. t ++ variablesFrom (matchedBy reply spans sets) (v + 1)) (upward-first f k (positionCount spans v) (on .1))
-      ∙ append-assoc (f k) (positionsFrom spans sets v (k + 1)) (variablesFrom (matchedBy reply spans sets) (v + 1))
-      ∙ ap (λ t. f k ++ t) (rest-position reply spans sets v k (on .0))
+      ap (λ t. t ++ variablesFrom (resultOf outcome spans sets) (v + 1)) (upward-first f k (positionCount spans v) (on .1))
+      ∙ append-assoc (f k) (positionsFrom spans sets v (k + 1)) (variablesFrom (resultOf outcome spans sets) (v + 1))
+      ∙ ap (λ t. f k ++ t) (rest-position outcome spans sets v k (on .0))
   rest-next End on = refl
 
+-- a refusal's line has its number and its place
+refused-text : (r : Matched) (g : Refusal) → refusedText (numberOf g) (placeOf g) ≡ textOf r (refusedAs g)
+refused-text r (refusal n place) = refl
+
 -- LAW: at the first line it is the whole text
-pub rest-start : (reply : Reply) (spans sets : List ℕ) → restAt reply spans sets First ≡ textIn (matchedBy reply spans sets)
-unfolding restAt replyLine
-rest-start (Match low high) spans sets = let r = matchedBy (Match low high) spans sets in ap (λ t. replyLine (Match low high) ++ t) (sym (through-upward (variableLines r) variableCount))
-rest-start (Refused n place) spans sets = append-nil (replyLine (Refused n place))
+pub rest-start : (outcome : Outcome) (spans sets : List ℕ) → restAt outcome spans sets First ≡ textIn (resultOf outcome spans sets)
+unfolding restAt outcomeLine
+rest-start (Match low high) spans sets = let r = resultOf (Match low high) spans sets in ap (λ t. outcomeLine (Match low high) ++ t) (sym (through-upward (variableLines r) variableCount))
+rest-start (Refused why) spans sets = append-nil (outcomeLine (Refused why)) ∙ refused-text (resultOf (Refused why) spans sets) (told why)
 
 -- LAW: at the end it is nothing
-pub rest-end : (reply : Reply) (spans sets : List ℕ) → restAt reply spans sets End ≡ []
+pub rest-end : (outcome : Outcome) (spans sets : List ℕ) → restAt outcome spans sets End ≡ []
 unfolding restAt
-rest-end reply spans sets = refl
+rest-end outcome spans sets = refl
 
 -- ---- cursors stay on lines
 
@@ -167,10 +173,10 @@ seek-on spans v (suc n) e = go (decLt 0 (positionCount spans v)) (seek-on spans 
     go (yes l) later = rw (ne-eqb (positionCount spans v) 0 (λ z. omega arith)) (omega arith, l)
     go (no l) later = rw (eq-eqb (positionCount spans v) 0 (omega arith)) later
 
-on-first : (reply : Reply) (spans : List ℕ) → OnLine spans (afterReply reply spans)
-unfolding afterReply
+on-first : (outcome : Outcome) (spans : List ℕ) → OnLine spans (afterOutcome outcome spans)
+unfolding afterOutcome
 on-first (Match low high) spans = seek-on spans 0 variableCount (omega arith)
-on-first (Refused n place) spans = tt
+on-first (Refused why) spans = tt
 
 on-position : (spans : List ℕ) (v k : ℕ) → v < variableCount → OnLine spans (afterPosition spans v k)
 unfolding afterPosition
@@ -181,12 +187,12 @@ on-position spans v k l = go (decLt (k + 1) (positionCount spans v))
     go (no m) = rw (le-ltb (k + 1) (positionCount spans v) (omega arith)) (seek-on spans (v + 1) (variableCount - (v + 1)) (omega arith))
 
 -- LAW: the next cursor stands at a line, or at the end
-pub on-next : (reply : Reply) (spans : List ℕ) (cursor : Cursor) → OnLine spans cursor → OnLine spans (nextCursor reply spans cursor)
+pub on-next : (outcome : Outcome) (spans : List ℕ) (cursor : Cursor) → OnLine spans cursor → OnLine spans (nextCursor outcome spans cursor)
 unfolding nextCursor
-on-next reply spans First on = on-first reply spans
-on-next reply spans (Variable v) on = on
-on-next reply spans (Position v k) on = on-position spans v k (on .0)
-on-next reply spans End on = tt
+on-next outcome spans First on = on-first outcome spans
+on-next outcome spans (Variable v) on = on
+on-next outcome spans (Position v k) on = on-position spans v k (on .0)
+on-next outcome spans End on = tt
 
 -- ---- how many lines there are
 
@@ -200,51 +206,51 @@ ended (Variable v) = no (λ e. let z : _≡_ {A = ℕ} 0 1 = cc in omega arith)
 ended (Position v k) = no (λ e. let z : _≡_ {A = ℕ} 0 1 = cc in omega arith)
 ended End = yes refl
 
-reply-some : (reply : Reply) → 0 < length (replyLine reply)
-unfolding replyLine
-reply-some (Match low high) = line-some (matchWord ∷ decimal low ∷ decimal high ∷ [])
-reply-some (Refused n place) = line-some (refusedWord ∷ decimal n ∷ decimal place ∷ [])
+outcome-some : (outcome : Outcome) → 0 < length (outcomeLine outcome)
+unfolding outcomeLine
+outcome-some (Match low high) = line-some (matchWord ∷ decimal low ∷ decimal high ∷ [])
+outcome-some (Refused why) = line-some (refusedWord ∷ decimal (numberOf (told why)) ∷ decimal (placeOf (told why)) ∷ [])
 
-module _ (reply : Reply) (spans sets : List ℕ) where
+module _ (outcome : Outcome) (spans sets : List ℕ) where
   -- no line is empty
-  some-byte : (cursor : Cursor) → (cursor ≡ End → ⊥) → 0 < length (lineAt reply spans sets cursor)
+  some-byte : (cursor : Cursor) → (cursor ≡ End → ⊥) → 0 < length (lineAt outcome spans sets cursor)
   unfolding lineAt variableLine symbolsLine
-  some-byte First over = reply-some reply
+  some-byte First over = outcome-some outcome
   some-byte (Variable v) over = line-some (variableWord v ∷ decimal (positionCount spans v) ∷ decimal (ownLowest spans v) ∷ decimal (ownHighest spans v) ∷ [])
   some-byte (Position v k) over = line-some (map decimal (collect setRoom (holds sets (firstPosition spans v + k))))
   some-byte End over = absurd (over refl)
 
   -- LAW: with each line less is left
   pub rest-falls : (cursor : Cursor) → OnLine spans cursor → (cursor ≡ End → ⊥)
-      → length (restAt reply spans sets (nextCursor reply spans cursor)) < length (restAt reply spans sets cursor)
+      → length (restAt outcome spans sets (nextCursor outcome spans cursor)) < length (restAt outcome spans sets cursor)
   rest-falls cursor on over =
-      let here = lineAt reply spans sets cursor in
-      let left = restAt reply spans sets (nextCursor reply spans cursor) in
-      omega (arith, ap length (rest-next reply spans sets cursor on), length-append here left, some-byte cursor over)
+      let here = lineAt outcome spans sets cursor in
+      let left = restAt outcome spans sets (nextCursor outcome spans cursor) in
+      omega (arith, ap length (rest-next outcome spans sets cursor on), length-append here left, some-byte cursor over)
 
   -- LAW: nothing is left exactly at the end
-  pub rest-over : (cursor : Cursor) → OnLine spans cursor → restAt reply spans sets cursor ≡ [] ↔ (cursor ≡ End)
-  rest-over cursor on = ((λ e. go (ended cursor) e), (λ e. ap (restAt reply spans sets) e ∙ rest-end reply spans sets))
+  pub rest-over : (cursor : Cursor) → OnLine spans cursor → restAt outcome spans sets cursor ≡ [] ↔ (cursor ≡ End)
+  rest-over cursor on = ((λ e. go (ended cursor) e), (λ e. ap (restAt outcome spans sets) e ∙ rest-end outcome spans sets))
     where
-      go : Dec (cursor ≡ End) → restAt reply spans sets cursor ≡ [] → cursor ≡ End
+      go : Dec (cursor ≡ End) → restAt outcome spans sets cursor ≡ [] → cursor ≡ End
       go (yes over) e = over
       go (no on-way) e = absurd (omega (arith, rest-falls cursor on on-way, ap length e))
 
-  left : (cursor : Cursor) → OnLine spans cursor → (n : ℕ) → length (restAt reply spans sets cursor) ≤ suc n → length (restAt reply spans sets (nextCursor reply spans cursor)) ≤ n
+  left : (cursor : Cursor) → OnLine spans cursor → (n : ℕ) → length (restAt outcome spans sets cursor) ≤ suc n → length (restAt outcome spans sets (nextCursor outcome spans cursor)) ≤ n
   unfolding nextCursor restAt
   left cursor on n l = go (ended cursor)
     where
-      go : Dec (cursor ≡ End) → length (restAt reply spans sets (nextCursor reply spans cursor)) ≤ n
+      go : Dec (cursor ≡ End) → length (restAt outcome spans sets (nextCursor outcome spans cursor)) ≤ n
       go (yes over) = rw over (omega arith)
       go (no on-way) = omega (arith, rest-falls cursor on on-way)
 
-  all-lines : (n : ℕ) (cursor : Cursor) → OnLine spans cursor → length (restAt reply spans sets cursor) ≤ n → linesFrom reply spans sets n cursor ≡ restAt reply spans sets cursor
-  all-lines zero cursor on l = sym (nothing (restAt reply spans sets cursor) l)
+  all-lines : (n : ℕ) (cursor : Cursor) → OnLine spans cursor → length (restAt outcome spans sets cursor) ≤ n → linesFrom outcome spans sets n cursor ≡ restAt outcome spans sets cursor
+  all-lines zero cursor on l = sym (nothing (restAt outcome spans sets cursor) l)
   all-lines (suc n) cursor on l =
-      ap (λ t. lineAt reply spans sets cursor ++ t) (all-lines n (nextCursor reply spans cursor) (on-next reply spans cursor on) (left cursor on n l))
-      ∙ sym (rest-next reply spans sets cursor on)
+      ap (λ t. lineAt outcome spans sets cursor ++ t) (all-lines n (nextCursor outcome spans cursor) (on-next outcome spans cursor on) (left cursor on n l))
+      ∙ sym (rest-next outcome spans sets cursor on)
 
   -- THEOREM: the lines from the first on, one after the other, are the text. (Past the last line there are only empty ones.)
-  pub lines-are-text : (n : ℕ) → length (textIn (matchedBy reply spans sets)) ≤ n
-      → linesFrom reply spans sets n First ≡ textIn (matchedBy reply spans sets)
-  lines-are-text n l = all-lines n First tt (omega (arith, ap length (rest-start reply spans sets))) ∙ rest-start reply spans sets
+  pub lines-are-text : (n : ℕ) → length (textIn (resultOf outcome spans sets)) ≤ n
+      → linesFrom outcome spans sets n First ≡ textIn (resultOf outcome spans sets)
+  lines-are-text n l = all-lines n First tt (omega (arith, ap length (rest-start outcome spans sets))) ∙ rest-start outcome spans sets

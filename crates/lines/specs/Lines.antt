@@ -7,11 +7,14 @@ use Prim.Native.Nat.{ℕ, zero, suc, _+_, _-_, _*_, _≤_, _<_}
 use lib.Dec.{eqb, ltb}
 use lib.ListN.{length}
 use Rattle.meaning.specs.Limits.{setWords, setRoom, variableCount, spanWidth}
-use Rattle.meaning.specs.Calls.{Answer, refused, gives, Degrees, degrees, Matched}
+use Rattle.meaning.specs.Refusals.{numberOf, placeOf}
+use Rattle.meaning.specs.Calls.{Matched}
 use Rattle.meaning.specs.Buffers.{firstPosition, positionCount, ownLowest, ownHighest}
 use Rattle.meaning.specs.Program.{decimal, line, matchWord, variableWord, positionLine, variableLines, refusedText, textOf}
-use Rattle.lines.specs.declared.line.Reply.{Reply}
-use Rattle.lines.specs.declared.line.Reply.the-variants.{Match, Refused}
+use Rattle.refusal.specs.declared.Outcome.{Outcome}
+use Rattle.refusal.specs.declared.Outcome.the-variants.{Match, Refused}
+use Rattle.refusal.specs.Told.{told}
+use Rattle.refusal.specs.Outcomes.{resultOf}
 use Rattle.lines.specs.declared.line.Cursor.{Cursor}
 use Rattle.lines.specs.declared.line.Cursor.the-variants.{First, Variable, Position, End}
 use Rattle.lines.specs.declared.line.Line.{Line}
@@ -22,23 +25,15 @@ use Rattle.text.specs.Texts.{PutBy}
 abbrev pub textIn : Matched → List ℕ
 textIn r = textOf r (r .answer)
 
--- What a reply says, and the match that it is the answer of.
-abbrev pub replied : Reply → Answer Degrees
-replied (Match low high) = gives (degrees low high)
-replied (Refused n place) = refused n place
-
-abbrev pub matchedBy : Reply → List ℕ → List ℕ → Matched
-matchedBy reply spans sets = record { answer = replied reply; spans = spans; sets = sets }
-
 -- ---- one line
 
 -- Room for any line: the longest has as many symbols as a set has room for, and none is wider than five digits and a space.
 abbrev pub lineRoom : ℕ
 lineRoom = 8 * setRoom
 
-unfoldable pub replyLine : Reply → List ℕ
-replyLine (Match low high) = line (matchWord ∷ decimal low ∷ decimal high ∷ [])
-replyLine (Refused n place) = refusedText n place
+unfoldable pub outcomeLine : Outcome → List ℕ
+outcomeLine (Match low high) = line (matchWord ∷ decimal low ∷ decimal high ∷ [])
+outcomeLine (Refused why) = refusedText (numberOf (told why)) (placeOf (told why))
 
 unfoldable pub variableLine : List ℕ → ℕ → List ℕ
 variableLine spans v = line (variableWord v ∷ decimal (positionCount spans v) ∷ decimal (ownLowest spans v) ∷ decimal (ownHighest spans v) ∷ [])
@@ -47,11 +42,11 @@ unfoldable pub symbolsLine : List ℕ → ℕ → List ℕ
 symbolsLine sets position = positionLine sets position
 
 -- The line at a cursor.
-unfoldable pub lineAt : Reply → List ℕ → List ℕ → Cursor → List ℕ
-lineAt reply spans sets First = replyLine reply
-lineAt reply spans sets (Variable v) = variableLine spans v
-lineAt reply spans sets (Position v k) = symbolsLine sets (firstPosition spans v + k)
-lineAt reply spans sets End = []
+unfoldable pub lineAt : Outcome → List ℕ → List ℕ → Cursor → List ℕ
+lineAt outcome spans sets First = outcomeLine outcome
+lineAt outcome spans sets (Variable v) = variableLine spans v
+lineAt outcome spans sets (Position v k) = symbolsLine sets (firstPosition spans v + k)
+lineAt outcome spans sets End = []
 
 -- ---- from line to line
 
@@ -64,19 +59,19 @@ seekIn spans v (suc n) = cond (eqb (positionCount spans v) 0) (seekIn spans (suc
 abbrev pub seekFrom : List ℕ → ℕ → Cursor
 seekFrom spans v = seekIn spans v (variableCount - v)
 
-unfoldable pub afterReply : Reply → List ℕ → Cursor
-afterReply (Match low high) spans = seekFrom spans 0
-afterReply (Refused n place) spans = End
+unfoldable pub afterOutcome : Outcome → List ℕ → Cursor
+afterOutcome (Match low high) spans = seekFrom spans 0
+afterOutcome (Refused why) spans = End
 
 unfoldable pub afterPosition : List ℕ → ℕ → ℕ → Cursor
 afterPosition spans v k = cond (ltb (k + 1) (positionCount spans v)) (Position v (k + 1)) (seekFrom spans (v + 1))
 
 -- The cursor after the line at a cursor.
-unfoldable pub nextCursor : Reply → List ℕ → Cursor → Cursor
-nextCursor reply spans First = afterReply reply spans
-nextCursor reply spans (Variable v) = Position v 0
-nextCursor reply spans (Position v k) = afterPosition spans v k
-nextCursor reply spans End = End
+unfoldable pub nextCursor : Outcome → List ℕ → Cursor → Cursor
+nextCursor outcome spans First = afterOutcome outcome spans
+nextCursor outcome spans (Variable v) = Position v 0
+nextCursor outcome spans (Position v k) = afterPosition spans v k
+nextCursor outcome spans End = End
 
 -- A cursor that stands at a line, or at the end: its variable has positions, and its position is one of them.
 abbrev pub OnLine : List ℕ → Cursor → Type 0
@@ -88,9 +83,9 @@ OnLine spans End = Unit {0}
 -- ---- all lines
 
 -- n lines from a cursor on
-abbrev pub linesFrom : Reply → List ℕ → List ℕ → ℕ → Cursor → List ℕ
-linesFrom reply spans sets zero cursor = []
-linesFrom reply spans sets (suc n) cursor = lineAt reply spans sets cursor ++ linesFrom reply spans sets n (nextCursor reply spans cursor)
+abbrev pub linesFrom : Outcome → List ℕ → List ℕ → ℕ → Cursor → List ℕ
+linesFrom outcome spans sets zero cursor = []
+linesFrom outcome spans sets (suc n) cursor = lineAt outcome spans sets cursor ++ linesFrom outcome spans sets n (nextCursor outcome spans cursor)
 
 -- f i, f (i + 1), .., n of them, one after the other
 abbrev pub upward : ℕ → ℕ → (ℕ → List ℕ) → List ℕ
@@ -106,16 +101,16 @@ abbrev pub positionsFrom : List ℕ → List ℕ → ℕ → ℕ → List ℕ
 positionsFrom spans sets v k = upward k (positionCount spans v - k) (λ i. symbolsLine sets (firstPosition spans v + i))
 
 -- what follows the first line
-abbrev pub following : Reply → List ℕ → List ℕ → List ℕ
-following (Match low high) spans sets = variablesFrom (matchedBy (Match low high) spans sets) 0
-following (Refused n place) spans sets = []
+abbrev pub following : Outcome → List ℕ → List ℕ → List ℕ
+following (Match low high) spans sets = variablesFrom (resultOf (Match low high) spans sets) 0
+following (Refused why) spans sets = []
 
 -- What is still to be written at a cursor.
-unfoldable pub restAt : Reply → List ℕ → List ℕ → Cursor → List ℕ
-restAt reply spans sets First = replyLine reply ++ following reply spans sets
-restAt reply spans sets (Variable v) = variablesFrom (matchedBy reply spans sets) v
-restAt reply spans sets (Position v k) = positionsFrom spans sets v k ++ variablesFrom (matchedBy reply spans sets) (v + 1)
-restAt reply spans sets End = []
+unfoldable pub restAt : Outcome → List ℕ → List ℕ → Cursor → List ℕ
+restAt outcome spans sets First = outcomeLine outcome ++ following outcome spans sets
+restAt outcome spans sets (Variable v) = variablesFrom (resultOf outcome spans sets) v
+restAt outcome spans sets (Position v k) = positionsFrom spans sets v k ++ variablesFrom (resultOf outcome spans sets) (v + 1)
+restAt outcome spans sets End = []
 
 -- ---- what putting a line comes to
 
@@ -124,12 +119,12 @@ pub record Spanned (spans sets : List ℕ) : Type 0 where
   pub spans-there : spanWidth * variableCount ≤ length spans
   pub sets-there : (v : ℕ) → v < variableCount → setWords * (firstPosition spans v + positionCount spans v) ≤ length sets
 
-module _ (reply : Reply) (spans sets : List ℕ) (cursor : Cursor) (before : List ℕ) (at : ℕ) where
+module _ (outcome : Outcome) (spans sets : List ℕ) (cursor : Cursor) (before : List ℕ) (at : ℕ) where
   -- The line at the cursor lies over the buffer from `at` on, and the cursor is the next one.
   pub record TextBy (end : ℕ) (next : Cursor) (after : List ℕ) : Type 0 where
     pub not-over : cursor ≡ End → ⊥
-    pub put : PutBy before at (lineAt reply spans sets cursor) end after
-    pub next-is : next ≡ nextCursor reply spans cursor
+    pub put : PutBy before at (lineAt outcome spans sets cursor) end after
+    pub next-is : next ≡ nextCursor outcome spans cursor
 
   -- Done, and the buffer as it was, exactly at the end.
   abbrev pub LineBy : Line → List ℕ → Type 0

@@ -6,8 +6,8 @@ ghost use Rattle.lines.specs.Filling.{FilledBy};
 use crate::line::Cursor;
 use crate::line::LINE_ROOM;
 use crate::line::Line;
-use crate::line::Reply;
 use crate::line::next_line;
+use refusal::Outcome;
 
 pub struct Filled {
     // where the text ends
@@ -18,7 +18,7 @@ pub struct Filled {
 
 // Puts the lines from the cursor on behind each other, from `at` on, for as long as there is room for any line.
 pub fn fill(
-    reply: Reply,
+    outcome: Outcome,
     spans: &[u16],
     sets: &[u64],
     cursor: Cursor,
@@ -26,12 +26,12 @@ pub fn fill(
     at: usize,
 ) -> Filled
     requires { ⌜ Spanned (now spans) (now sets) × OnLine (now spans) cursor × (at ≤ length (now out)) ⌝ }
-    ensures { λ r. ⌜ FilledBy reply (now (spans .entry)) (now (sets .entry)) cursor (now (out .entry)) at r (now (out .exit)) ⌝ }
+    ensures { λ r. ⌜ FilledBy outcome (now (spans .entry)) (now (sets .entry)) cursor (now (out .entry)) at r (now (out .exit)) ⌝ }
 {
     let mut end = at;
     let mut next = cursor;
     while out.len() - end >= LINE_ROOM {
-        match next_line(reply, spans, sets, next, out, end) {
+        match next_line(outcome, spans, sets, next, out, end) {
             Line::Text(line_end, after) => {
                 end = line_end;
                 next = after;

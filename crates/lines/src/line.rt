@@ -9,18 +9,12 @@ ghost use Rattle.meaning.specs.Limits.{setWords, variableCount, spanWidth};
 ghost use Rattle.meaning.specs.Buffers.{firstPosition, positionCount, ownLowest, ownHighest};
 ghost use Rattle.meaning.specs.Program.{line};
 ghost use Rattle.text.specs.Texts.{PutBy, numeral};
-ghost use Rattle.lines.specs.Lines.{lineRoom, replyLine, variableLine, symbolsLine, seekFrom, afterReply, afterPosition, OnLine, Spanned, LineBy};
+ghost use Rattle.lines.specs.Lines.{lineRoom, outcomeLine, variableLine, symbolsLine, seekFrom, afterOutcome, afterPosition, OnLine, Spanned, LineBy};
+use refusal::Outcome;
 use sets::SymbolSet;
 use text::put_byte;
 use text::put_number;
 use text::put_text;
-
-pub enum Reply {
-    // the lowest and the highest degree
-    Match(u16, u16),
-    // number and place
-    Refused(u16, u16),
-}
 
 // Which line comes next.
 pub enum Cursor {
@@ -87,13 +81,13 @@ fn seek(spans: &[u16], first: u16) -> Cursor
     Cursor::End
 }
 
-fn after_reply(reply: Reply, spans: &[u16]) -> Cursor
+fn after_outcome(outcome: Outcome, spans: &[u16]) -> Cursor
     requires { ⌜ spanWidth * variableCount ≤ length (now spans) ⌝ }
-    ensures { λ r. ⌜ r ≡ afterReply reply (now (spans .entry)) ⌝ }
+    ensures { λ r. ⌜ r ≡ afterOutcome outcome (now (spans .entry)) ⌝ }
 {
-    match reply {
-        Reply::Match(_, _) => seek(spans, 0),
-        Reply::Refused(_, _) => Cursor::End,
+    match outcome {
+        Outcome::Match(_, _) => seek(spans, 0),
+        Outcome::Refused(_) => Cursor::End,
     }
 }
 
@@ -131,13 +125,13 @@ fn put_fields(out: &mut [u8], at: usize, word: &[u8], first: u16, second: u16) -
     put_numbers(out, first_at, first, second)
 }
 
-fn put_reply(out: &mut [u8], at: usize, reply: Reply) -> usize
+fn put_outcome(out: &mut [u8], at: usize, outcome: Outcome) -> usize
     requires { ⌜ at + lineRoom ≤ length (now out) ⌝ }
-    ensures { λ r. ⌜ PutBy (now (out .entry)) at (replyLine reply) r (now (out .exit)) ⌝ }
+    ensures { λ r. ⌜ PutBy (now (out .entry)) at (outcomeLine outcome) r (now (out .exit)) ⌝ }
 {
-    match reply {
-        Reply::Match(lowest, highest) => put_fields(out, at, b"match", lowest, highest),
-        Reply::Refused(number, place) => put_fields(out, at, b"refused", number, place),
+    match outcome {
+        Outcome::Match(lowest, highest) => put_fields(out, at, b"match", lowest, highest),
+        Outcome::Refused(why) => put_fields(out, at, b"refused", why.number(), why.place()),
     }
 }
 
@@ -186,7 +180,7 @@ fn put_symbols(out: &mut [u8], start: usize, sets: &[u64], position: usize) -> u
 
 // Puts the line at the cursor from `at` on, and says where it ends and which comes next.
 pub fn next_line(
-    reply: Reply,
+    outcome: Outcome,
     spans: &[u16],
     sets: &[u64],
     cursor: Cursor,
@@ -194,10 +188,10 @@ pub fn next_line(
     at: usize,
 ) -> Line
     requires { ⌜ Spanned (now spans) (now sets) × OnLine (now spans) cursor × (at + lineRoom ≤ length (now out)) ⌝ }
-    ensures { λ r. ⌜ LineBy reply (now (spans .entry)) (now (sets .entry)) cursor (now (out .entry)) at r (now (out .exit)) ⌝ }
+    ensures { λ r. ⌜ LineBy outcome (now (spans .entry)) (now (sets .entry)) cursor (now (out .entry)) at r (now (out .exit)) ⌝ }
 {
     match cursor {
-        Cursor::First => Line::Text(put_reply(out, at, reply), after_reply(reply, spans)),
+        Cursor::First => Line::Text(put_outcome(out, at, outcome), after_outcome(outcome, spans)),
         Cursor::Variable(v) => Line::Text(put_variable(out, at, spans, v), Cursor::Position(v, 0)),
         Cursor::Position(v, k) => {
             let position = first_position(spans, v) as usize + k as usize;

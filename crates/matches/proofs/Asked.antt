@@ -23,9 +23,9 @@ use Rattle.sound.specs.Found.{found}
 use Rattle.sound.specs.declared.Checked.{Checked}
 use Rattle.sound.specs.declared.Checked.the-variants.{Sound, Refused}
 use Rattle.terms.proofs.Readings.{row6-is, row7-is}
-use Rattle.matching.specs.Outcomes.{resultOf}
-use Rattle.matching.specs.declared.search.Outcome.{Outcome}
-use Rattle.matching.specs.declared.search.Outcome.the-variants.{Refused as NoMatch}
+use Rattle.refusal.specs.Outcomes.{resultOf}
+use Rattle.refusal.specs.declared.Outcome.{Outcome}
+use Rattle.refusal.specs.declared.Outcome.the-variants.{Refused as NoMatch}
 use Rattle.matches.specs.Matching.{MatchHeading, askedRows}
 use Rattle.sound.proofs.Checks.{stays-refused}
 

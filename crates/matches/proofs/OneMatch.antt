@@ -8,10 +8,10 @@ use Rattle.meaning.specs.Demands.{Accepted, Demand2, Demand3}
 use Rattle.meaning.proofs.Matched.{demand2}
 use Rattle.meaning.proofs.Cuts.{demand3}
 use Rattle.refusal.proofs.One.{one-refusal, gives-none}
-use Rattle.matching.specs.Outcomes.{saidMatch, resultOf}
+use Rattle.refusal.specs.Outcomes.{saidMatch, resultOf}
 use Rattle.matching.proofs.Searched.{same-matched}
-use Rattle.matching.specs.declared.search.Outcome.{Outcome}
-use Rattle.matching.specs.declared.search.Outcome.the-variants.{Match, Refused}
+use Rattle.refusal.specs.declared.Outcome.{Outcome}
+use Rattle.refusal.specs.declared.Outcome.the-variants.{Match, Refused}
 use Rattle.matches.specs.Matching.{MatchHeading}
 
 one-said : (r s : Outcome) → saidMatch r ≡ saidMatch s → r ≡ s

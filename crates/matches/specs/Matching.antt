@@ -6,8 +6,8 @@ use Prim.Native.Nat.{ℕ}
 use Rattle.meaning.specs.File.{tableIn}
 use Rattle.meaning.specs.Refusals.{Row, row5, row6, row7, row8}
 use Rattle.meaning.specs.Calls.{matched, laterSpans, laterSets}
-use Rattle.matching.specs.Outcomes.{saidMatch}
-use Rattle.matching.specs.declared.search.Outcome.{Outcome}
+use Rattle.refusal.specs.Outcomes.{saidMatch}
+use Rattle.refusal.specs.declared.Outcome.{Outcome}
 
 -- ---- 6. The match: its answer, and what the two buffers hold later.
 

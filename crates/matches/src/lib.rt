@@ -11,7 +11,7 @@ ghost use Rattle.meaning.specs.Calls.{inputRows};
 ghost use Rattle.sound.specs.Found.{found};
 ghost use Rattle.matches.specs.Matching.{MatchHeading, askedRows};
 use crate::memory::search_sound;
-use matching::search::Outcome;
+use refusal::Outcome;
 use refusal::Refusal;
 use sets::SymbolSet;
 use sound::Checked;

@@ -7,10 +7,10 @@ ghost use Rattle.meaning.specs.File.{tableIn};
 ghost use Rattle.meaning.specs.Calls.{matchCall};
 ghost use Rattle.meaning.specs.Demands.{Accepted};
 ghost use Rattle.near.specs.Near.{Fresh};
-ghost use Rattle.matching.specs.Outcomes.{resultOf};
-use matching::search::Outcome;
+ghost use Rattle.refusal.specs.Outcomes.{resultOf};
 use matching::search::search;
 use near::NEAR_WORDS;
+use refusal::Outcome;
 use sets::SymbolSet;
 use table::read::symbol_count;
 

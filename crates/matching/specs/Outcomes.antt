@@ -5,21 +5,11 @@ use Prim.Native.Nat.{ℕ, _-_, _*_}
 use lib.Dec.{ltb}
 use lib.ListN.{length, take}
 use Rattle.meaning.specs.Limits.{setWords, variableCount}
-use Rattle.meaning.specs.Calls.{Answer, gives, Degrees, degrees, Matched, zeros}
+use Rattle.meaning.specs.Calls.{gives, degrees, Matched, zeros}
 use Rattle.refusal.specs.Told.{refusedBy}
 use Rattle.refusal.specs.declared.Refusal.{Refusal}
 use Rattle.refusal.specs.declared.Refusal.the-variants.{NoForm}
 use Rattle.packing.specs.declared.Search.{Search}
-use Rattle.matching.specs.declared.search.Outcome.{Outcome}
-use Rattle.matching.specs.declared.search.Outcome.the-variants.{Match, Refused}
-
-abbrev pub saidMatch : Outcome → Answer Degrees
-saidMatch (Match low high) = gives (degrees low high)
-saidMatch (Refused why) = refusedBy why
-
--- The answer with what the buffers hold.
-abbrev pub resultOf : Outcome → List ℕ → List ℕ → Matched
-resultOf r spans sets = record { answer = saidMatch r; spans = spans; sets = sets }
 
 -- Refused so, with zeros in both buffers.
 abbrev pub emptied : Refusal → List ℕ → List ℕ → Matched

@@ -9,21 +9,17 @@ ghost use Rattle.meaning.specs.Demands.{Accepted};
 ghost use Rattle.near.specs.Near.{Fresh};
 ghost use Rattle.facing.specs.Faced.{ClearBy};
 ghost use Rattle.packing.specs.Pack.{Room};
-ghost use Rattle.matching.specs.Outcomes.{resultOf, emptied, outcomeOf};
+ghost use Rattle.refusal.specs.Outcomes.{resultOf};
+ghost use Rattle.matching.specs.Outcomes.{emptied, outcomeOf};
 use crate::clear::clear_numbers;
 use crate::clear::clear_words;
 use facing::faces::Facing;
 use facing::faces::face;
 use packing::Search;
 use packing::pack;
+use refusal::Outcome;
 use refusal::Refusal;
 use sets::SymbolSet;
-
-pub enum Outcome {
-    // the lowest and the highest degree
-    Match(u16, u16),
-    Refused(Refusal),
-}
 
 // Refused by the search, which leaves zeros in both buffers.
 fn refuse(why: Refusal, spans: &mut [u16], sets: &mut [u64]) -> Outcome

@@ -6,7 +6,7 @@ ghost use Rattle.lines.specs.Lines.{lineRoom, Spanned};
 ghost use Rattle.output.specs.Pendings.{Standing, isOver};
 use lines::filling::fill;
 use lines::line::Cursor;
-use lines::line::Reply;
+use refusal::Outcome;
 
 // What stands in the buffer and is still to be written.
 pub enum Pending {
@@ -54,18 +54,24 @@ fn is_over(cursor: Cursor) -> bool
 }
 
 // Puts the answer's text behind what stands in the buffer, and writes the buffer out each time that it is full.
-pub fn put_answer(reply: Reply, spans: &[u16], sets: &[u64], out: &mut [u8], used: usize) -> Pending
+pub fn put_answer(
+    outcome: Outcome,
+    spans: &[u16],
+    sets: &[u64],
+    out: &mut [u8],
+    used: usize,
+) -> Pending
     requires { ⌜ Spanned (now spans) (now sets) × (used ≤ length (now out)) × (lineRoom ≤ length (now out)) ⌝ }
     ensures { λ r. ⌜ Standing (length (now (out .entry))) r ⌝ }
 {
-    let filled = fill(reply, spans, sets, Cursor::First, out, used);
+    let filled = fill(outcome, spans, sets, Cursor::First, out, used);
     let mut end = filled.end;
     let mut cursor = filled.cursor;
     while !is_over(cursor) {
         if !write_out(out, end) {
             return Pending::Failed;
         }
-        let more = fill(reply, spans, sets, cursor, out, 0);
+        let more = fill(outcome, spans, sets, cursor, out, 0);
         end = more.end;
         cursor = more.cursor;
     }

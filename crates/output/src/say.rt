@@ -8,7 +8,8 @@ use crate::pending::Pending;
 use crate::pending::put_answer;
 use crate::pending::write_out;
 use lines::line::LINE_ROOM;
-use lines::line::Reply;
+use refusal::Outcome;
+use refusal::Refusal;
 use text::put_byte;
 use text::put_text;
 
@@ -67,7 +68,13 @@ pub fn say_too_long(k: u64, out: &mut [u8], used: usize) -> Pending
     // a refusal has no set to print
     let sets = [0u64; 1];
     match say_title(k, out, used) {
-        Pending::Bytes(at) => put_answer(Reply::Refused(12, 0), &spans, &sets, out, at),
+        Pending::Bytes(at) => put_answer(
+            Outcome::Refused(Refusal::Misshapen),
+            &spans,
+            &sets,
+            out,
+            at,
+        ),
         Pending::Failed => Pending::Failed,
     }
 }

@@ -8,15 +8,13 @@ use lib.ListN.{length, take, drop, length-drop}
 use lib.Seq.{take-at, take-all}
 use Rattle.meaning.specs.Limits.{setWords, variableCount, spanWidth}
 use Rattle.meaning.specs.File.{number}
-use Rattle.meaning.specs.Refusals.{Refusal, refusal, numberOf, placeOf, row, row12}
-use Rattle.meaning.specs.Calls.{Answer, refused, refusedAs, Degrees, zeros}
+use Rattle.meaning.specs.Refusals.{row, row12}
+use Rattle.meaning.specs.Calls.{zeros}
 use Rattle.meaning.specs.Program.{numbersFrom, cutIn, patternIn, headingIn, tableBytes}
-use Rattle.matching.specs.Outcomes.{saidMatch}
-use Rattle.matching.specs.declared.search.Outcome.{Outcome}
 use Rattle.matches.specs.Matching.{MatchHeading}
-use Rattle.lines.specs.declared.line.Reply.{Reply}
-use Rattle.lines.specs.declared.line.Reply.the-variants.{Refused}
-use Rattle.lines.specs.Lines.{replied}
+use Rattle.refusal.specs.declared.Outcome.{Outcome}
+use Rattle.refusal.specs.declared.Outcome.the-variants.{Refused}
+use Rattle.refusal.specs.declared.Refusal.the-variants.{Misshapen}
 use Rattle.lines.proofs.Spans.{zeros-spanned}
 use Rattle.shape.specs.Rooms.{roomFor}
 use Rattle.shape.proofs.Shapes.{nodes-inside}
@@ -43,10 +41,6 @@ copied-list input at out out′ count n k e l (q, copied) =
 pub rest-all : (xs : List ℕ) (k : ℕ) → take (length xs - k) (drop k xs) ≡ drop k xs
 rest-all xs k = take-all (length xs - k) (drop k xs) (omega (arith, length-drop k xs))
 
--- LAW: a refusal is its number and its place
-pub in-two : (g : Refusal) → _≡_ {A = Answer Degrees} (refused (numberOf g) (placeOf g)) (refusedAs g)
-in-two (refusal n place) = refl
-
 module _ (input : List ℕ) where
   -- LAW: a set for each node of the heading that is cut
   pub room-enough : row12 input ≡ row 12 none → setWords * length (take 1025 (headingIn input)) ≡ roomFor input
@@ -59,21 +53,21 @@ module _ (input : List ℕ) where
       ∙ sym (room-some input (omega (arith, nodes-inside input e)))
 
   -- LAW: what the match says is the answer
-  pub answered : {table pattern heading spans sets spans′ sets′ : List ℕ} {cut : ℕ} {outcome : Outcome} (reply : Reply) → row12 input ≡ row 12 none → roomFor input ≤ length sets
-      → replied reply ≡ saidMatch outcome → table ≡ tableBytes input → pattern ≡ take 1025 (patternIn input) → heading ≡ take 1025 (headingIn input) → cut ≡ cutIn input
-      → spans ≡ blank → MatchHeading table pattern heading cut spans sets outcome spans′ sets′ → AnsweredBy input reply spans′ sets′
-  answered {sets = sets} reply e room says its-table its-pattern its-heading its-cut clear given =
+  pub answered : {table pattern heading spans sets spans′ sets′ : List ℕ} {cut : ℕ} (outcome : Outcome) → row12 input ≡ row 12 none → roomFor input ≤ length sets
+      → table ≡ tableBytes input → pattern ≡ take 1025 (patternIn input) → heading ≡ take 1025 (headingIn input) → cut ≡ cutIn input
+      → spans ≡ blank → MatchHeading table pattern heading cut spans sets outcome spans′ sets′ → AnsweredBy input outcome spans′ sets′
+  answered {sets = sets} outcome e room its-table its-pattern its-heading its-cut clear given =
       let m = rw (its-table, its-pattern, its-heading, its-cut, clear) at given in
       let table = tableBytes input in
       let pattern = take 1025 (patternIn input) in
       let heading = take 1025 (headingIn input) in
       let asks = asked-text input sets (omega (arith, room-enough e)) ∙ sym (output-asked input e) in
       record {
-        text-is = rw (says ∙ m .answers, m .spans-later, m .sets-later) asks;
+        text-is = rw (m .answers, m .spans-later, m .sets-later) asks;
         spanned = rw (m .spans-later, m .sets-later) (match-spanned table pattern heading (cutIn input) (spanWidth * variableCount) sets (omega arith));
       }
 
   -- LAW: a misshapen question's answer
-  pub answered-misshapen : (sets : List ℕ) → row12 input ≡ row 12 (just 0) → AnsweredBy input (Refused 12 0) blank sets
+  pub answered-misshapen : (sets : List ℕ) → row12 input ≡ row 12 (just 0) → AnsweredBy input (Refused Misshapen) blank sets
   answered-misshapen sets e =
       record { text-is = sym (output-misshapen input e); spanned = zeros-spanned (spanWidth * variableCount) sets (omega arith) }

@@ -24,9 +24,10 @@ use Rattle.meaning.specs.Buffers.{firstPosition, positionCount, bit, holds}
 use Rattle.meaning.specs.Program.{decimal, line, variableLines, refusedText, cutIn, patternIn, headingIn, tableBytes, asked, textUnless, output}
 use Rattle.meaning.proofs.Bits.{getD-zeros}
 use Rattle.meaning.proofs.Compose.{by-input, by-search, by-answer}
-use Rattle.lines.specs.declared.line.Reply.{Reply}
-use Rattle.lines.specs.declared.line.Reply.the-variants.{Match, Refused}
-use Rattle.lines.specs.Lines.{textIn, matchedBy, replyLine, variableLine, symbolsLine, upward}
+use Rattle.refusal.specs.declared.Outcome.{Outcome}
+use Rattle.refusal.specs.declared.Outcome.the-variants.{Match}
+use Rattle.refusal.specs.Outcomes.{resultOf}
+use Rattle.lines.specs.Lines.{textIn, outcomeLine, variableLine, symbolsLine, upward}
 use Rattle.lines.proofs.Rest.{some-lines, no-lines}
 use Rattle.shape.proofs.Copying.{length-numbers}
 use Rattle.question.proofs.Cutting.{cut-reading, long-reading}
@@ -84,21 +85,20 @@ module _ (sets : List ℕ) (m n : ℕ) where
       let same : (k : ℕ) → holds (sets ++ zeros m) p k ≡ holds (sets ++ zeros n) p k = λ k. ap (bit (k % wordBits)) (padded sets (setWords * p + k / wordBits)) in
       ap (λ f. line (map decimal (collect setRoom f))) (fun-ext same)
 
-  same-lines : (reply : Reply) (spans : List ℕ) (v : ℕ) → variableLines (matchedBy reply spans (sets ++ zeros m)) v ≡ variableLines (matchedBy reply spans (sets ++ zeros n)) v
-  same-lines reply spans v = go (decLt 0 (positionCount spans v))
+  same-lines : (outcome : Outcome) (spans : List ℕ) (v : ℕ) → variableLines (resultOf outcome spans (sets ++ zeros m)) v ≡ variableLines (resultOf outcome spans (sets ++ zeros n)) v
+  same-lines outcome spans v = go (decLt 0 (positionCount spans v))
     where
-      go : Dec (0 < positionCount spans v) → variableLines (matchedBy reply spans (sets ++ zeros m)) v ≡ variableLines (matchedBy reply spans (sets ++ zeros n)) v
+      go : Dec (0 < positionCount spans v) → variableLines (resultOf outcome spans (sets ++ zeros m)) v ≡ variableLines (resultOf outcome spans (sets ++ zeros n)) v
       go (yes l) =
           let here : (i : ℕ) → symbolsLine (sets ++ zeros m) (firstPosition spans v + i) ≡ symbolsLine (sets ++ zeros n) (firstPosition spans v + i) = λ i. same-symbols (firstPosition spans v + i) in
-          some-lines reply spans (sets ++ zeros m) v l
+          some-lines outcome spans (sets ++ zeros m) v l
           ∙ ap (λ f. variableLine spans v ++ upward 0 (positionCount spans v - 0) f) (fun-ext here)
-          ∙ sym (some-lines reply spans (sets ++ zeros n) v l)
-      go (no l) = no-lines reply spans (sets ++ zeros m) v (omega arith) ∙ sym (no-lines reply spans (sets ++ zeros n) v (omega arith))
+          ∙ sym (some-lines outcome spans (sets ++ zeros n) v l)
+      go (no l) = no-lines outcome spans (sets ++ zeros m) v (omega arith) ∙ sym (no-lines outcome spans (sets ++ zeros n) v (omega arith))
 
-  same-text : (reply : Reply) (spans : List ℕ) → textIn (matchedBy reply spans (sets ++ zeros m)) ≡ textIn (matchedBy reply spans (sets ++ zeros n))
-  unfolding replyLine
-  same-text (Match low high) spans = ap (λ f. replyLine (Match low high) ++ through variableCount f) (fun-ext (same-lines (Match low high) spans))
-  same-text (Refused k place) spans = refl
+  same-text : (low high : ℕ) (spans : List ℕ) → textIn (resultOf (Match low high) spans (sets ++ zeros m)) ≡ textIn (resultOf (Match low high) spans (sets ++ zeros n))
+  unfolding outcomeLine
+  same-text low high spans = ap (λ f. outcomeLine (Match low high) ++ through variableCount f) (fun-ext (same-lines (Match low high) spans))
 
 -- ---- other memory, and lists that are cut
 
@@ -129,9 +129,8 @@ module _ (table pattern heading : List ℕ) (cut : ℕ) (sets sets′ : List ℕ
           ∙ sym (ap textIn (by-search table pattern heading cut spans sets′ k place e q))
       searched none e q =
           let packed = packedSets (tableIn table) cut fs in
-          let reply = Match (lowestOf (tableIn table) cut fs) (highestOf (tableIn table) cut fs) in
           ap textIn (by-answer table pattern heading cut spans sets (ap first same-input ∙ e) q)
-          ∙ same-text packed (length sets - length packed) (length sets′ - length packed) reply (packedSpans (tableIn table) cut fs ++ zeros (length spans - length (packedSpans (tableIn table) cut fs)))
+          ∙ same-text packed (length sets - length packed) (length sets′ - length packed) (lowestOf (tableIn table) cut fs) (highestOf (tableIn table) cut fs) (packedSpans (tableIn table) cut fs ++ zeros (length spans - length (packedSpans (tableIn table) cut fs)))
           ∙ sym (ap textIn (by-answer table pattern heading cut spans sets′ e q))
 
       by : (o : Option Refusal) → first (inputRows table pattern heading cut spans sets′) ≡ o

@@ -16,8 +16,8 @@ fn serve_in(question: &[u8], sets: &mut [u64], out: &mut [u8], used: usize) -> P
     ensures { λ r. ⌜ Standing (length (now (out .entry))) r ⌝ }
 {
     let mut spans = [0u16; 128];
-    let reply = answer(question, &mut spans, sets);
-    put_answer(reply, &spans, sets, out, used)
+    let outcome = answer(question, &mut spans, sets);
+    put_answer(outcome, &spans, sets, out, used)
 }
 
 // Puts the answer to a question behind what stands in the buffer. Of the sets no more is used than the question's heading has nodes for.

@@ -8,7 +8,7 @@ use native.Mathlib.Omega.{arith}
 use Rattle.meaning.specs.Refusals.{Refusal as Given, refusal}
 use Rattle.meaning.specs.Calls.{Answer, refused, gives, refusedAs, unless}
 use Rattle.refusal.specs.declared.Refusal.{Refusal}
-use Rattle.refusal.specs.declared.Refusal.the-variants.{Layout, Counts, Arity, Pair, Cut, Pattern, Heading, Room, Clash, NoForm, NoSymbol, Absent}
+use Rattle.refusal.specs.declared.Refusal.the-variants.{Layout, Counts, Arity, Pair, Cut, Pattern, Heading, Room, Clash, NoForm, Misshapen, NoSymbol, Absent}
 use Rattle.refusal.specs.Told.{told, refusedBy}
 
 -- the case that a number and a place tell of
@@ -24,7 +24,8 @@ named n place =
     (cond (eqb n 8) Room
     (cond (eqb n 9) (Clash place)
     (cond (eqb n 10) (NoForm place)
-    (cond (eqb n 13) (NoSymbol place) Absent))))))))))
+    (cond (eqb n 12) Misshapen
+    (cond (eqb n 13) (NoSymbol place) Absent)))))))))))
 
 module _ (A : Type 0) where
   abbrev namedIn : Answer A → Refusal
@@ -42,6 +43,7 @@ module _ (A : Type 0) where
   named-told Room = refl
   named-told (Clash node) = refl
   named-told (NoForm variable) = refl
+  named-told Misshapen = refl
   named-told (NoSymbol place) = refl
   named-told Absent = refl
 

@@ -2,7 +2,7 @@
 use Rattle.meaning.specs.Refusals.{Refusal as Given, refusal}
 use Rattle.meaning.specs.Calls.{Answer, refusedAs}
 use Rattle.refusal.specs.declared.Refusal.{Refusal}
-use Rattle.refusal.specs.declared.Refusal.the-variants.{Layout, Counts, Arity, Pair, Cut, Pattern, Heading, Room, Clash, NoForm, NoSymbol, Absent}
+use Rattle.refusal.specs.declared.Refusal.the-variants.{Layout, Counts, Arity, Pair, Cut, Pattern, Heading, Room, Clash, NoForm, Misshapen, NoSymbol, Absent}
 
 abbrev pub told : Refusal → Given
 told Layout = refusal 1 0
@@ -15,6 +15,7 @@ told (Heading node) = refusal 7 node
 told Room = refusal 8 0
 told (Clash node) = refusal 9 node
 told (NoForm variable) = refusal 10 variable
+told Misshapen = refusal 12 0
 told (NoSymbol place) = refusal 13 place
 told Absent = refusal 14 0
 

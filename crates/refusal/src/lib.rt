@@ -24,10 +24,19 @@ pub enum Refusal {
     Clash(u16),
     // no term can stand for this variable
     NoForm(u16),
+    // the question file is misshapen
+    Misshapen,
     // of two numbers, the one at this place is no symbol
     NoSymbol(u16),
     // no such symbol or pair
     Absent,
+}
+
+// What a match comes to.
+pub enum Outcome {
+    // the lowest and the highest degree
+    Match(u16, u16),
+    Refused(Refusal),
 }
 
 impl Refusal {
@@ -46,6 +55,7 @@ impl Refusal {
             Refusal::Room => 8,
             Refusal::Clash(_) => 9,
             Refusal::NoForm(_) => 10,
+            Refusal::Misshapen => 12,
             Refusal::NoSymbol(_) => 13,
             Refusal::Absent => 14,
         }
@@ -67,6 +77,7 @@ impl Refusal {
             Refusal::Counts => 0,
             Refusal::Cut => 0,
             Refusal::Room => 0,
+            Refusal::Misshapen => 0,
             Refusal::Absent => 0,
         }
     }

@@ -11,16 +11,16 @@ use Rattle.lines.proofs.filling.fill.Statement.{statement}
 use Rattle.lines.proofs.filling.fill.Tie as tie
 
 abbrev Inv-loop : tie.InvT-loop
-Inv-loop reply spans sets out₀ at end₀ next₀ out end next = Begun reply spans sets next₀ out₀ at end next out
+Inv-loop outcome spans sets out₀ at end₀ next₀ out end next = Begun outcome spans sets next₀ out₀ at end next out
 
 abbrev μ-loop : tie.MeasureT-loop
-μ-loop reply spans sets out₀ at end₀ next₀ out end next = length (restAt reply spans sets next)
+μ-loop outcome spans sets out₀ at end₀ next₀ out end next = length (restAt outcome spans sets next)
 
 loop-holds : tie.Need-loop-holds Inv-loop μ-loop
 loop-holds c =
     let s = c .before .before .before in
     let a = s .args in
-    begun-none (a .reply) (a .spans .now) (a .sets .now) (a .cursor) (a .out .now) (a .at) (s .pre .1) (s .pre .2)
+    begun-none (a .outcome) (a .spans .now) (a .sets .now) (a .cursor) (a .out .now) (a .at) (s .pre .1) (s .pre .2)
 
 sub-loop : tie.Need-sub-loop Inv-loop μ-loop
 sub-loop c = omega (arith, c .loop .inv .put .inside, c .loop .inv .same)
@@ -39,7 +39,7 @@ loop-less c =
     let loop = c .before .before .before .before .before .before .before .before .loop in
     let line = c .before .line-end .given in
     let put = c .before .before .before .before .before .next-line in
-    line-less (a .reply) (a .spans .now) (a .sets .now) (a .cursor) (a .out .now) (a .at) (loop .end) (loop .next) (loop .out) (put .result) (line .0 .0) (line .0 .1 .0) (put .last .1 .1 .1 .1 .0) (loop .inv) (put .ensures) (line .1)
+    line-less (a .outcome) (a .spans .now) (a .sets .now) (a .cursor) (a .out .now) (a .at) (loop .end) (loop .next) (loop .out) (put .result) (line .0 .0) (line .0 .1 .0) (put .last .1 .1 .1 .1 .0) (loop .inv) (put .ensures) (line .1)
 
 loop-again : tie.Need-loop-again Inv-loop μ-loop
 loop-again c =
@@ -47,7 +47,7 @@ loop-again c =
     let loop = c .before .before .before .before .before .before .before .before .loop in
     let line = c .before .line-end .given in
     let put = c .before .before .before .before .before .next-line in
-    begun-line (a .reply) (a .spans .now) (a .sets .now) (a .cursor) (a .out .now) (a .at) (loop .end) (loop .next) (loop .out) (put .result) (line .0 .0) (line .0 .1 .0) (put .last .1 .1 .1 .1 .0) (loop .inv) (put .ensures) (line .1) (put .kept .1 .1 .1 .1 .0)
+    begun-line (a .outcome) (a .spans .now) (a .sets .now) (a .cursor) (a .out .now) (a .at) (loop .end) (loop .next) (loop .out) (put .result) (line .0 .0) (line .0 .1 .0) (put .last .1 .1 .1 .1 .0) (loop .inv) (put .ensures) (line .1) (put .kept .1 .1 .1 .1 .0)
 
 enum-told : tie.Need-enum-told Inv-loop μ-loop
 enum-told c = search needs
@@ -60,8 +60,8 @@ returns c =
     let a = c .before .before .before .before .before .before .before .before .before .before .before .args in
     let loop = c .before .before .before .before .before .before .before .loop in
     let put = c .before .before .before .before .next-line in
-    let over = begun-over (a .reply) (a .spans .now) (a .sets .now) (a .cursor) (a .out .now) (a .at) (loop .end) (loop .next) (loop .out) (put .result) 0 (loop .next) (put .last .1 .1 .1 .1 .0) (loop .inv) (put .ensures) (c .enum-told .given .1) in
-    begun-filled (a .reply) (a .spans .now) (a .sets .now) (a .cursor) (a .out .now) (a .at) _ _ (over .1) (λ l. over .0)
+    let over = begun-over (a .outcome) (a .spans .now) (a .sets .now) (a .cursor) (a .out .now) (a .at) (loop .end) (loop .next) (loop .out) (put .result) 0 (loop .next) (put .last .1 .1 .1 .1 .0) (loop .inv) (put .ensures) (c .enum-told .given .1) in
+    begun-filled (a .outcome) (a .spans .now) (a .sets .now) (a .cursor) (a .out .now) (a .at) _ _ (over .1) (λ l. over .0)
 
 same-length-2 : tie.Need-same-length-2 Inv-loop μ-loop
 same-length-2 c = search needs
@@ -70,7 +70,7 @@ returns-2 : tie.Need-returns-2 Inv-loop μ-loop
 returns-2 c =
     let a = c .before .before .before .before .before .args in
     let loop = c .before .loop in
-    begun-filled (a .reply) (a .spans .now) (a .sets .now) (a .cursor) (a .out .now) (a .at) _ _ (loop .inv) (λ l. absurd (omega (arith, loop .inv .same)))
+    begun-filled (a .outcome) (a .spans .now) (a .sets .now) (a .cursor) (a .out .now) (a .at) _ _ (loop .inv) (λ l. absurd (omega (arith, loop .inv .same)))
 
 pub fill-spec : {M : Type 1} → statement M
 fill-spec =

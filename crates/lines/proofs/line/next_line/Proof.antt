@@ -21,11 +21,11 @@ place c = let s = c .before .before .before .before .before in subst (OnLine (no
 enum-told : tie.Need-enum-told
 enum-told c = search needs
 
-put-reply-requires : tie.Need-put-reply-requires
-put-reply-requires c κs = search needs
+put-outcome-requires : tie.Need-put-outcome-requires
+put-outcome-requires c κs = search needs
 
-after-reply-requires : tie.Need-after-reply-requires
-after-reply-requires c κs = search needs
+after-outcome-requires : tie.Need-after-outcome-requires
+after-outcome-requires c κs = search needs
 
 enum-known-cursor : tie.Need-enum-known-cursor
 enum-known-cursor c = search needs
@@ -68,7 +68,7 @@ same-length c = search needs
 returns : tie.Need-returns
 returns c =
     let a = c .before .before .before .before .before .before .before .before .before .before .args in
-    text-first (a .reply) (a .spans .now) (a .sets .now) (c .before .before .before .before .before .enum-told .given .1) (c .before .before .before .put-reply .ensures) (c .after-reply .ensures)
+    text-first (a .outcome) (a .spans .now) (a .sets .now) (c .before .before .before .before .before .enum-told .given .1) (c .before .before .before .put-outcome .ensures) (c .after-outcome .ensures)
 
 same-length-2 : tie.Need-same-length-2
 same-length-2 c = search needs
@@ -77,7 +77,7 @@ returns-2 : tie.Need-returns-2
 returns-2 c =
     let a = c .before .before .before .before .before .before .before .before .before .before .args in
     let cursor = c .before .before .before .before .before .cursor .given in
-    text-variable (a .reply) (a .spans .now) (a .sets .now) (cursor .0 .0) (cursor .1) (c .before .before .put-variable .ensures) refl
+    text-variable (a .outcome) (a .spans .now) (a .sets .now) (cursor .0 .0) (cursor .1) (c .before .before .put-variable .ensures) refl
 
 same-length-3 : tie.Need-same-length-3
 same-length-3 c = search needs
@@ -87,7 +87,7 @@ returns-3 c =
     let a = c .before .before .before .before .before .before .before .before .before .before .before .before .args in
     let cursor = c .before .before .before .before .before .before .before .cursor2 .given in
     let line = rw (c .before .before .before .before .before .first-position .ensures) at (c .before .before .before .put-symbols .ensures) in
-    text-position (a .reply) (a .spans .now) (a .sets .now) (cursor .0 .0) (cursor .0 .1 .0) (cursor .1) line (c .after-position .ensures)
+    text-position (a .outcome) (a .spans .now) (a .sets .now) (cursor .0 .0) (cursor .0 .1 .0) (cursor .1) line (c .after-position .ensures)
 
 returns-4 : tie.Need-returns-4
 returns-4 c = search needs
@@ -97,8 +97,8 @@ next-line-spec =
     tie.close
     (tie.spec
     enum-told
-    put-reply-requires
-    after-reply-requires
+    put-outcome-requires
+    after-outcome-requires
     enum-known-cursor
     put-variable-requires
     enum-known-cursor-2

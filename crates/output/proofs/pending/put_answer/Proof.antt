@@ -19,10 +19,10 @@ not-over : {cursor : Cursor} → isOver cursor ≡ false → cursor ≡ End → 
 not-over e over = false≢true (sym e ∙ ap isOver over)
 
 abbrev Inv-loop : tie.InvT-loop
-Inv-loop reply spans sets out₀ used end₀ cursor₀ out end cursor = (length out ≡ length out₀) × (end ≤ length out₀) × OnLine spans cursor
+Inv-loop outcome spans sets out₀ used end₀ cursor₀ out end cursor = (length out ≡ length out₀) × (end ≤ length out₀) × OnLine spans cursor
 
 abbrev μ-loop : tie.MeasureT-loop
-μ-loop reply spans sets out₀ used end₀ cursor₀ out end cursor = length (restAt reply spans sets cursor)
+μ-loop outcome spans sets out₀ used end₀ cursor₀ out end cursor = length (restAt outcome spans sets cursor)
 
 fill-requires : tie.Need-fill-requires Inv-loop μ-loop
 fill-requires c κs = search needs
@@ -52,7 +52,7 @@ loop-less c =
     let loop = c .before .before .before .before .before .before .before .before .before .loop in
     let first = c .before .before .before .before .before .before .before .before .before .before .before .before .fill in
     let more = c .before .before .fill2 in
-    fill-less (a .reply) (a .spans .now) (a .sets .now) (loop .cursor) (loop .out) (more .result) _ (more .ensures) (loop .inv .2) (omega (arith, s .pre, loop .inv .0, first .kept .1 .1 .1 .1 .0)) (not-over (sym (c .before .before .before .before .before .before .before .before .is-over .ensures) ∙ not-true _ (c .before .before .before .before .before .before .before .if1 .taken)))
+    fill-less (a .outcome) (a .spans .now) (a .sets .now) (loop .cursor) (loop .out) (more .result) _ (more .ensures) (loop .inv .2) (omega (arith, s .pre, loop .inv .0, first .kept .1 .1 .1 .1 .0)) (not-over (sym (c .before .before .before .before .before .before .before .before .is-over .ensures) ∙ not-true _ (c .before .before .before .before .before .before .before .if1 .taken)))
 
 loop-again : tie.Need-loop-again Inv-loop μ-loop
 loop-again c =

@@ -77,9 +77,6 @@ slice-aggregate-match-heading-2 c = sym (length-take-le _ _ (let copied = c .bef
 match-heading-requires : tie.Need-match-heading-requires
 match-heading-requires c κs = search needs
 
-reply-of-requires : tie.Need-reply-of-requires
-reply-of-requires c κs = search needs
-
 same-length : tie.Need-same-length
 same-length c = search needs
 
@@ -89,13 +86,13 @@ same-length-2 c = search needs
 returns : tie.Need-returns
 unfolding patternIn headingIn tableBytes
 returns c =
-    let s = c .before .before .before .before .before .before .before .before .before .before .before .before .before .before .before .before .before .before .before .before .before .before .before .before in
+    let s = c .before .before .before .before .before .before .before .before .before .before .before .before .before .before .before .before .before .before .before .before .before .before .before in
     let input = now (s .args .input) in
     let header = s .pre .0 in
-    let said = c .before .before .before .before .before .match-heading in
-    let first = c .before .before .before .before .before .before .before .before .before .before .before .before .before .before .before .before .copy-nodes in
-    let second = c .before .before .before .before .before .before .before .before .before .before .before .before .copy-nodes2 in
-    answered input (c .reply-of .result) (header .accepted) (s .pre .1 .1) (c .reply-of .ensures)
+    let said = c .before .before .before .before .match-heading in
+    let first = c .before .before .before .before .before .before .before .before .before .before .before .before .before .before .before .copy-nodes in
+    let second = c .before .before .before .before .before .before .before .before .before .before .before .copy-nodes2 in
+    answered input (said .result) (header .accepted) (s .pre .1 .1)
     (rest-all input _ ∙ ap₂ (λ m n. drop (14 + 2 * m + 2 * n) input) (header .pattern-is) (header .heading-is))
     (copied-list input 14 _ _ _ _ _ (header .pattern-is) refl (first .ensures))
     (copied-list input _ _ _ _ _ _ (header .heading-is) refl (second .ensures) ∙ ap (λ m. take 1025 (numbersFrom input (14 + 2 * m) (number input 4))) (header .pattern-is))
@@ -127,7 +124,6 @@ answer-asked-spec =
     array-share-prefix-heading
     slice-aggregate-match-heading-2
     match-heading-requires
-    reply-of-requires
     same-length
     same-length-2
     returns)
