@@ -47,15 +47,6 @@ impl SymbolSet {
         SymbolSet { words }
     }
 
-    // Whether symbol k is in the set.
-    pub fn has(self, k: u16) -> bool
-        requires { ⌜ k < setRoom ⌝ }
-        ensures { λ r. ⌜ r ≡ member (self .words) k ⌝ }
-    {
-        let words = self.words;
-        (words[(k / SymbolSet::BITS) as usize] >> (k % SymbolSet::BITS)) % 2 == 1
-    }
-
     // The least symbol of the set that is not below `from`, or some number that is not below `end` where none is below that. Words past the end
     // are not looked at, so that the symbols of a small table cost no more than they are.
     pub fn next(self, from: u16, end: u16) -> u16
