@@ -4,19 +4,28 @@ use mathlib.Core.List.{List, [], _∷_, _++_, append-assoc, append-nil}
 use mathlib.Core.Bool.{Bool, true, false, cond, false≢true}
 use Prim.Native.Nat.{ℕ, zero, suc, _+_, _-_, _≤_, _<_, max}
 use native.Mathlib.Nat.{not-suc-le-zero, zero-add}
+use native.Mathlib.Decide.{decLt, ℕ-discrete}
 use native.Mathlib.Omega.{arith}
 use lib.Dec.{ltb, eqb}
 use lib.ListN.{length, drop}
 use lib.Seq.{drop-length}
-use borrow.Author.Tests.{lt-ltb, le-ltb, ltb-false, eqb-true, eq-eqb}
+use borrow.Author.Tests.{lt-ltb, le-ltb, eq-eqb, ne-eqb}
 use Rattle.theory.specs.Tree.{Term, node, Terms, ∅, _▹_, Pattern, var, sym, Patterns, ∅ₚ, _▸_, count, countₚ, enc, encs, encₚ, encsₚ}
 use Rattle.theory.specs.Table.{Table, Over, Overs, Overₚ, Oversₚ}
 use Rattle.theory.specs.Read.{Walk, ends, fault, walk, Reading, whole, faulty, closed, reading, Fine, Fines, depth, depths}
 use Rattle.theory.specs.Decode.{Parsed, ParsedRow, headed, fronted, parse, parseRow, patternOf, termOf, asPattern, asPatterns, asTerm, asTerms}
 use Rattle.theory.proofs.Reading.{walk-stands, walk-enc, Stands}
 
-faulty≢whole : (j : ℕ) → faulty j ≡ whole → ⊥
+pub faulty≢whole : (j : ℕ) → faulty j ≡ whole → ⊥
 faulty≢whole j e = let z : _≡_ {A = ℕ} 0 1 = cc in omega arith
+
+-- LAW: a list that is read whole is not too long
+pub not-long : (T : Table) (vars : Bool) (xs : List ℕ) → reading T vars xs ≡ whole → length xs ≤ 1024
+not-long T vars xs e = go (decLt 1024 (length xs))
+  where
+    go : Dec (1024 < length xs) → length xs ≤ 1024
+    go (yes l) = absurd (faulty≢whole _ (rw (lt-ltb 1024 (length xs) l) at e))
+    go (no l) = omega arith
 
 module _ (T : Table) (small : T .size ≤ 32768) (vars : Bool) where
   mutual
@@ -51,26 +60,22 @@ module _ (T : Table) (small : T .size ≤ 32768) (vars : Bool) where
     pub is : xs ≡ encₚ pattern
 
   pub read-whole : (xs : List ℕ) → reading T vars xs ≡ whole → Written xs
-  read-whole xs e = go (ltb 1024 (length xs)) e
+  read-whole xs e = end (walk T vars xs 64 0) refl (rw (le-ltb 1024 (length xs) (not-long T vars xs e)) at e)
     where
-      close : (j : ℕ) → walk T vars xs 64 0 ≡ ends j → (b : Bool) → eqb j (length xs) ≡ b → cond b whole (faulty j) ≡ whole → Written xs
-      close j w false q e = absurd (faulty≢whole j e)
-      close j w true q e =
+      close : (j : ℕ) → walk T vars xs 64 0 ≡ ends j → closed (length xs) (ends j) ≡ whole → Dec (j ≡ length xs) → Written xs
+      close j w e (no n) = absurd (faulty≢whole _ (rw (ne-eqb j (length xs) n) at e))
+      close j w e (yes q) =
           let s = walk-stands T small vars xs 64 0 j w in
           record {
             pattern = s .pattern;
             fine = s .fine;
             deep = s .deep;
-            is = s .here ∙ ap (λ k. encₚ (s .pattern) ++ drop k xs) (eqb-true j (length xs) q) ∙ ap (λ l. encₚ (s .pattern) ++ l) (drop-length xs) ∙ append-nil (encₚ (s .pattern));
+            is = s .here ∙ ap (λ k. encₚ (s .pattern) ++ drop k xs) q ∙ ap (λ l. encₚ (s .pattern) ++ l) (drop-length xs) ∙ append-nil (encₚ (s .pattern));
           }
 
       end : (w : Walk) → walk T vars xs 64 0 ≡ w → closed (length xs) w ≡ whole → Written xs
-      end (ends j) w e = close j w (eqb j (length xs)) refl e
+      end (ends j) w e = close j w e (ℕ-discrete j (length xs))
       end (fault j) w e = absurd (faulty≢whole j e)
-
-      go : (b : Bool) → cond b (faulty 1024) (closed (length xs) (walk T vars xs 64 0)) ≡ whole → Written xs
-      go true e = absurd (faulty≢whole 1024 e)
-      go false e = end (walk T vars xs 64 0) refl e
 
   -- LAW: a list is read whole exactly if it writes a fine pattern
   pub whole-of : (p : Pattern) → Fine T vars p → depth p ≤ 64 → length (encₚ p) ≤ 1024 → reading T vars (encₚ p) ≡ whole

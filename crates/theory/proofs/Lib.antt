@@ -19,14 +19,18 @@ pub mod Place
 pub mod Present
 pub mod Taken
 -- lists and the trees that they write
-pub mod Steps
 pub mod Reading
+pub mod Levels
+pub mod Begun
+pub mod Reached
 pub mod Decoding
+pub mod Faults
 -- tables of listed pairs
 pub mod Pairs
 -- at cut 1000
 pub mod Identity
--- for the proofs of code: loops along the pattern's list and the heading's
+-- for the proofs of code: the walk's clauses, and loops along the pattern's list and the heading's
+pub mod Steps
 pub mod Rows
 pub mod Along
 pub mod Gathered

@@ -9,5 +9,6 @@ pub mod Faces
 pub mod Match
 pub mod Verdict
 pub mod Read
+pub mod Faults
 pub mod Decode
 pub mod Stands
