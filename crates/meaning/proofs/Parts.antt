@@ -12,13 +12,13 @@ use native.Mathlib.Omega.{arith}
 use lib.Dec.{ltb}
 use lib.Seq.{drop-append-le, drop-append-add, take-at}
 use lib.ListN.{length, take, drop, length-append}
-use borrow.Author.Tests.{lt-ltb, le-ltb, ltb-false}
+use borrow.Author.Tests.{lt-ltb, le-ltb}
 use Rattle.theory.specs.Tree.{Pattern, var, sym, Patterns, ∅ₚ, _▸_, encₚ, encsₚ}
 use Rattle.theory.specs.Table.{Table, degree}
-use Rattle.theory.specs.Read.{ends, walk, Reading, whole, faulty, closed, reading, Fine, Fines, depth, depths}
+use Rattle.theory.specs.Read.{ends, walk, Reading, whole, faulty, reading, Fine, Fines, depth, depths}
 use Rattle.theory.specs.Decode.{patternOf, termOf}
 use Rattle.theory.proofs.Reading.{walk-enc}
-use Rattle.theory.proofs.Decoding.{read-whole, whole-of}
+use Rattle.theory.proofs.Decoding.{not-long, read-whole, whole-of}
 use Rattle.meaning.specs.File.{tableIn}
 use Rattle.meaning.specs.Refusals.{Refusal, refusal, Row, row, first, faultOf, Given, row6, row7, tableRows, SoundFile}
 use Rattle.meaning.specs.Calls.{part, partTo, unlessPart, subtermRows, subterm, theFirst, theSecond, neither, unlessNearer, nearerRows, nearer}
@@ -92,14 +92,10 @@ module _ (T : Table) (vars : Bool) where
 pub is-term : (T : Table) → T .size ≤ 32768 → (vars : Bool) (list : List ℕ) → reading T vars list ≡ whole ↔ ((p : Pattern) × IsTerm T vars list p)
 is-term T small vars list = (there, back)
   where
-    nodes : (b : Bool) → ltb 1024 (length list) ≡ b → cond b (faulty 1024) (closed (length list) (walk T vars list 64 0)) ≡ whole → length list ≤ 1024
-    nodes false q e = ltb-false 1024 (length list) q
-    nodes true q e = let z : _≡_ {A = ℕ} 0 1 = cc in absurd (omega arith)
-
     there : reading T vars list ≡ whole → (p : Pattern) × IsTerm T vars list p
     there e =
         let w = read-whole T small vars list e in
-        (w .pattern, record { fine = w .fine; depth-at-most = w .deep; nodes-at-most = nodes (ltb 1024 (length list)) refl e; is = w .is })
+        (w .pattern, record { fine = w .fine; depth-at-most = w .deep; nodes-at-most = not-long T vars list e; is = w .is })
 
     back : (p : Pattern) × IsTerm T vars list p → reading T vars list ≡ whole
     back r = let t = r .1 in rw (t .is) (whole-of T small vars (r .0) (t .fine) (t .depth-at-most) (omega (arith, ap length (t .is), t .nodes-at-most)))

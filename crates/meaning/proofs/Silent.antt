@@ -9,7 +9,7 @@ use borrow.Author.Tests.{lt-ltb, le-ltb, eq-eqb}
 use Rattle.theory.specs.Pairs.{Pair, pair, listedTop, SoundPair}
 use Rattle.meaning.specs.Limits.{mostSymbols, mostPairs, mostArguments}
 use Rattle.meaning.specs.File.{symbolCount, pairCount, aritiesOffset, pairsOffset, totalField, pairsAt, total}
-use Rattle.meaning.specs.Refusals.{at0, outside, unsound, unordered, badPair, row1-short, row1-offsets, row2, row3, row4, row8-output}
+use Rattle.meaning.specs.Refusals.{at0, outside, unsound, unordered, badPair, row1-short, row1-offsets, row2, row3, row4, row5, row8-output}
 use Rattle.meaning.proofs.First.{Silent, none-below}
 use Rattle.meaning.proofs.Sound.{Offsets}
 use Rattle.meaning.proofs.Rising.{After, after-rises}
@@ -63,7 +63,11 @@ module _ (arities : List ℕ) (pairs : List Pair) (sound : (k : ℕ) → k < len
   unfolding row4
   silent-pairs = none-below (badPair arities pairs) (length pairs) (λ k l. rw (sound-false arities (getD pairs k (pair 0 0 0)) (sound k l)) (ordered k l))
 
--- ---- room
+-- ---- cut and room
+
+pub silent-cut : (cut : ℕ) → 1 ≤ cut → cut ≤ 1000 → Silent (row5 cut)
+unfolding row5
+silent-cut cut a b = ap at0 (inside-false 1 1000 cut a b)
 
 pub silent-output : (n : ℕ) (output : List ℕ) → n ≤ length output → Silent (row8-output n output)
 unfolding row8-output

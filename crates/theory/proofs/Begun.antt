@@ -1,6 +1,6 @@
 -- A walk that stops at a fault has begun a pattern: the terms that it has ended are there whole, that in which it stopped is there as far as the
 -- walk came, and variables fill what is still open.
-use mathlib.Core.Path.{_≡_, refl, sym as inv, ap, ap₂, _∙_}
+use mathlib.Core.Path.{_≡_, refl, sym as inv, ap, _∙_}
 use mathlib.Core.List.{List, [], _∷_, _++_, append-assoc, append-nil}
 use mathlib.Core.Bool.{Bool, true, false, _&&_, cond}
 use Prim.Native.Nat.{ℕ, zero, suc, _+_, _≤_, _<_}
@@ -164,7 +164,7 @@ module _ (T : Table) (small : T .size ≤ 32768) (vars : Bool) where
               many = ap suc (r .many);
               fine = (fine-any T vars p (s .fine), r .fine);
               so-far = seen-behind (encₚ p) (levels d p) (levels-length d p) (deep-levels p d 64 (omega (arith, s .deep))) (all-symbols T vars p (s .fine))
-                i k (s .here) (s .far) (encsₚ (r .patterns)) (levelsIn d (r .patterns)) j (r .so-far);
+                  i k (s .here) (s .far) (encsₚ (r .patterns)) (levelsIn d (r .patterns)) j (r .so-far);
             }
 
     -- LAW: a walk that stops at a fault has begun a pattern
@@ -190,7 +190,7 @@ module _ (T : Table) (small : T .size ≤ 32768) (vars : Bool) where
               pattern = sym x (r .patterns);
               fine = (f, r .many, r .fine);
               so-far = seen-behind (x ∷ []) (d ∷ []) refl (omega arith, tt) (λ v. (f, tt)) i (suc i) (drop-cons xs i 0 l ∙ ap (λ y. y ∷ drop (suc i) xs) y) (omega arith)
-                (encsₚ (r .patterns)) (levelsIn (suc d) (r .patterns)) j (r .so-far);
+                  (encsₚ (r .patterns)) (levelsIn (suc d) (r .patterns)) j (r .so-far);
             }
 
         go : (b : Bool) → ltb i (length xs) ≡ b → (t : Bool) → permitted T vars (getD xs i 0) ≡ t

@@ -1,18 +1,17 @@
 -- A list that a walk finds whole writes one pattern, or one term, which decoding gives back.
 use mathlib.Core.Path.{_≡_, refl, sym as inv, ap, ap₂, _∙_, subst}
 use mathlib.Core.List.{List, [], _∷_, _++_, append-assoc, append-nil}
-use mathlib.Core.Bool.{Bool, true, false, cond, false≢true}
+use mathlib.Core.Bool.{Bool, true, false, false≢true}
 use Prim.Native.Nat.{ℕ, zero, suc, _+_, _-_, _≤_, _<_, max}
 use native.Mathlib.Nat.{not-suc-le-zero, zero-add}
 use native.Mathlib.Decide.{decLt, ℕ-discrete}
 use native.Mathlib.Omega.{arith}
-use lib.Dec.{ltb, eqb}
 use lib.ListN.{length, drop}
 use lib.Seq.{drop-length}
 use borrow.Author.Tests.{lt-ltb, le-ltb, eq-eqb, ne-eqb}
 use Rattle.theory.specs.Tree.{Term, node, Terms, ∅, _▹_, Pattern, var, sym, Patterns, ∅ₚ, _▸_, count, countₚ, enc, encs, encₚ, encsₚ}
 use Rattle.theory.specs.Table.{Table, Over, Overs, Overₚ, Oversₚ}
-use Rattle.theory.specs.Read.{Walk, ends, fault, walk, Reading, whole, faulty, closed, reading, Fine, Fines, depth, depths}
+use Rattle.theory.specs.Read.{Walk, ends, fault, walk, whole, faulty, closed, reading, Fine, Fines, depth, depths}
 use Rattle.theory.specs.Decode.{Parsed, ParsedRow, headed, fronted, parse, parseRow, patternOf, termOf, asPattern, asPatterns, asTerm, asTerms}
 use Rattle.theory.proofs.Reading.{walk-stands, walk-enc, Stands}
 

@@ -1,22 +1,22 @@
 -- The place at which a list is refused. Up to where the walk stops its nodes begin a term, for the walk has begun one; and if they began one with the
 -- node there too, the walk would have passed that node. So it stops at the fault, and a list has one fault at most.
 use mathlib.Core.Path.{_≡_, refl, sym as inv, ap, _∙_, subst}
-use mathlib.Core.Logic.{_↔_, _⊎_, inl, inr}
-use mathlib.Core.List.{List, [], _∷_, _++_}
+use mathlib.Core.Logic.{_↔_, inl, inr}
+use mathlib.Core.List.{List, _++_}
 use mathlib.Core.Bool.{Bool}
-use Prim.Native.Nat.{ℕ, zero, suc, _+_, _≤_, _<_, min}
+use Prim.Native.Nat.{ℕ, suc, _≤_, _<_}
 use native.Mathlib.Decide.{decLt, ℕ-discrete}
 use native.Mathlib.Omega.{arith}
 use borrow.Author.Tests.{lt-ltb, le-ltb, eq-eqb, ne-eqb}
 use lib.ListN.{length, take, drop, length-append, length-take, take-append-drop}
 use lib.Seq.{take-at, take-take, length-take-le}
-use Rattle.theory.specs.Tree.{Pattern, encₚ}
+use Rattle.theory.specs.Tree.{encₚ}
 use Rattle.theory.specs.Table.{Table}
 use Rattle.theory.specs.Least.{All}
-use Rattle.theory.specs.Read.{Walk, ends, fault, walk, Reading, whole, faulty, closed, reading, Fine, depth}
+use Rattle.theory.specs.Read.{Walk, ends, fault, walk, Reading, whole, faulty, closed, reading}
 use Rattle.theory.specs.Faults.{levels, Begins, FaultAt, FaultPlace}
 use Rattle.theory.proofs.Lemmas.{all-left}
-use Rattle.theory.proofs.Begun.{Seen, Begun, ended-begun, fault-begun}
+use Rattle.theory.proofs.Begun.{Begun, ended-begun, fault-begun}
 use Rattle.theory.proofs.Reached.{stop, Front, reach}
 use Rattle.theory.proofs.Decoding.{faulty≢whole, read-whole, whole-of}
 
@@ -48,7 +48,7 @@ module _ (T : Table) (vars : Bool) where
       record {
         pattern = p;
         fine = b .fine;
-        first = ap (λ k. take k (encₚ p)) n ∙ inv (take-take m (length nodes) (encₚ p) l) ∙ ap (take m) (b .first);
+        begins-with = ap (λ k. take k (encₚ p)) n ∙ inv (take-take m (length nodes) (encₚ p) l) ∙ ap (take m) (b .begins-with);
         deep = rw n (subst (All (λ d. d ≤ 64)) (take-take m (length nodes) (levels 1 p) l) (all-take (λ d. d ≤ 64) m (take (length nodes) (levels 1 p)) (b .deep)));
         ground = λ q. all-take (λ x. x < T .size) m nodes (b .ground q);
       }
@@ -68,6 +68,7 @@ module _ (T : Table) (vars : Bool) where
       go (no l) (no r) = omega arith
 
 module _ (T : Table) (small : T .size ≤ 32768) (vars : Bool) (list : List ℕ) where
+  -- the nodes up to where the walk stops begin a term
   begun : (j : ℕ) → stop (walk T vars list 64 0) ≡ j → Begun T small vars list 1 0 j
   begun j e = go (walk T vars list 64 0) refl e
     where
@@ -84,25 +85,30 @@ module _ (T : Table) (small : T .size ≤ 32768) (vars : Bool) (list : List ℕ)
       (record {
         pattern = p;
         fine = b .fine;
-        first = ap (take (length (s .seen))) (s .nodes-are) ∙ take-at (s .seen) (s .unseen) (length (s .seen)) refl;
+        begins-with = ap (take (length (s .seen))) (s .nodes-are) ∙ take-at (s .seen) (s .unseen) (length (s .seen)) refl;
         deep = subst (All (λ d. d ≤ 64)) (inv (ap (take (length (s .seen))) (s .depths-are) ∙ take-at (s .levels-seen) (s .levels-unseen) (length (s .seen)) (s .as-many))) (s .deep);
         ground = s .ground;
       })
 
-  no-further : (j : ℕ) → j < length list → Begins T vars (take (suc j) list) → suc j ≤ stop (walk T vars list 64 0)
-  no-further j l b =
-      let p = b .pattern in
-      let n : length (take (suc j) list) ≡ suc j = length-take-le (suc j) list l in
-      let e : take (suc j) (encₚ p) ≡ take (suc j) list = rw n at (b .first) in
-      let f : Front T small vars list (encₚ p) (levels 1 p) 0 (suc j) =
-        record {
-          rest = drop (suc j) list;
-          here = inv (take-append-drop (suc j) list) ∙ ap (λ l. l ++ drop (suc j) list) (inv e);
-          enough = omega (arith, ap length e, length-take (suc j) (encₚ p));
-          deep = rw n at (b .deep);
-          ground = λ q. subst (All (λ x. x < T .size)) (inv e) (b .ground q);
-        } in
-      omega (arith, reach T small vars list p 1 64 (omega arith) (b .fine) 0 (suc j) f)
+  -- where they begin one with the node at j too, the walk passes j
+  passes : (j : ℕ) → j < length list → Begins T vars (take (suc j) list) → suc j ≤ stop (walk T vars list 64 0)
+  passes j l b = omega (arith, reach T small vars list (b .pattern) 1 64 (omega arith) (b .fine) 0 (suc j) front)
+    where
+      n : length (take (suc j) list) ≡ suc j
+      n = length-take-le (suc j) list l
+
+      e : take (suc j) (encₚ (b .pattern)) ≡ take (suc j) list
+      e = rw n at (b .begins-with)
+
+      front : Front T small vars list (encₚ (b .pattern)) (levels 1 (b .pattern)) 0 (suc j)
+      front =
+          record {
+            rest = drop (suc j) list;
+            here = inv (take-append-drop (suc j) list) ∙ ap (λ l. l ++ drop (suc j) list) (inv e);
+            enough = omega (arith, n, ap length e, length-take (suc j) (encₚ (b .pattern)));
+            deep = rw n at (b .deep);
+            ground = λ q. subst (All (λ x. x < T .size)) (inv e) (b .ground q);
+          }
 
   -- LAW: a list that is not too long is refused at its fault
   pub at-fault : length list ≤ 1024 → (j : ℕ) → reading T vars list ≡ faulty j → FaultAt T vars list j
@@ -114,7 +120,7 @@ module _ (T : Table) (small : T .size ≤ 32768) (vars : Bool) (list : List ℕ)
       record {
         inside = omega (arith, s .far, ap length (s .here), length-append (s .seen) (drop j list));
         begins = begun-begins j b;
-        no-further = λ l b. omega (arith, no-further j l b);
+        no-further = λ l b. omega (arith, passes j l b);
         no-term = λ p o d is. faulty≢whole j (inv e ∙ ap (reading T vars) is ∙ whole-of T small vars p o d (omega (arith, ap length is)));
       }
 

@@ -1,9 +1,8 @@
 -- The depths of a pattern's nodes: there is one for each node, and none is greater than the pattern's depth allows. And the nodes of a pattern in
 -- which no variable stands are symbols.
-use mathlib.Core.Path.{_≡_, refl, sym as inv, ap, _∙_}
-use mathlib.Core.List.{List, [], _∷_, _++_}
+use mathlib.Core.Path.{_≡_, refl, sym as inv, ap}
 use mathlib.Core.Bool.{Bool, true, false, false≢true}
-use Prim.Native.Nat.{ℕ, suc, _+_, _≤_, _<_, max}
+use Prim.Native.Nat.{ℕ, suc, _+_, _≤_, _<_}
 use native.Mathlib.Omega.{arith}
 use lib.ListN.{length, length-append}
 use Rattle.theory.specs.Tree.{Pattern, var, sym, Patterns, ∅ₚ, _▸_, encₚ, encsₚ}

@@ -1,9 +1,8 @@
 -- A walk does not stop among the first nodes of a pattern that are permitted and not too deep: each takes it on, whatever the list has behind them.
-use mathlib.Core.Path.{_≡_, refl, sym as inv, ap, _∙_, subst}
-use mathlib.Core.List.{List, [], _∷_, _++_, append-assoc, append-nil}
+use mathlib.Core.Path.{_≡_, refl, ap, _∙_, subst}
+use mathlib.Core.List.{List, [], _∷_, _++_, append-assoc}
 use mathlib.Core.Bool.{Bool, true, false, _&&_, cond}
 use Prim.Native.Nat.{ℕ, zero, suc, _+_, _-_, _≤_, _<_}
-use native.Mathlib.Nat.{not-suc-le-zero}
 use native.Mathlib.Numerals.{add-one}
 use native.Mathlib.Decide.{decLe}
 use native.Mathlib.Omega.{arith}
@@ -14,7 +13,7 @@ use lib.Seq.{take-append-le, take-append-add}
 use Rattle.theory.specs.Tree.{Pattern, var, sym, Patterns, ∅ₚ, _▸_, countₚ, encₚ, encsₚ}
 use Rattle.theory.specs.Table.{Table}
 use Rattle.theory.specs.Least.{All}
-use Rattle.theory.specs.Read.{Walk, ends, fault, onward, several, permitted, width, walk, Fine, Fines, depth}
+use Rattle.theory.specs.Read.{Walk, ends, fault, onward, several, permitted, width, walk, Fine, Fines}
 use Rattle.theory.specs.Faults.{levels, levelsIn}
 use Rattle.theory.proofs.Lemmas.{all-left, all-right}
 use Rattle.theory.proofs.Reading.{drop-part, permitted-symbol, permitted-variable, step, walk-enc}

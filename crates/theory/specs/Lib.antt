@@ -1,6 +1,7 @@
 -- Matching modulo proximity, as published: ground terms and patterns as trees (`Tree`), a table and the degree of two terms (`Table`, `Pairs`),
--- what faces what (`Faces`), the sets, the degrees and what a match comes to (`Match`, `Verdict`), and how lists of numbers write trees (`Read`,
--- `Decode`, `Stands`). `Least` has the words for least and most. What is proved of all this stands in proofs/.
+-- what faces what (`Faces`), the sets, the degrees and what a match comes to (`Match`, `Verdict`), how lists of numbers write trees (`Read`,
+-- `Decode`, `Stands`), and where lists that write none are at fault (`Faults`). `Least` has the words for least and most. What is proved of all this
+-- stands in proofs/.
 pub mod Tree
 pub mod Table
 pub mod Pairs
