@@ -102,7 +102,7 @@ is-term T small vars list = (there, back)
 
 read-first : (n : ℕ) (r : Reading) → first (row n (faultOf r) ∷ []) ≡ none ↔ (r ≡ whole)
 read-first n whole = ((λ e. refl), (λ e. refl))
-read-first n (faulty i) = ((λ e. absurd (Option·some-ne-none (refusal n i) e)), (λ e. let z : _≡_ {A = ℕ} 0 1 = cc in absurd (omega arith)))
+read-first n (faulty i) = ((λ e. absurd (Option·some-ne-none _ e)), (λ e. let z : _≡_ {A = ℕ} 0 1 = cc in absurd (omega arith)))
 
 -- THEOREM: refusals 6 and 7, of a table that is not refused
 pub terms : (table : List ℕ) → SoundFile table → TermLists table
