@@ -4,15 +4,15 @@ use Rattle.meaning.proofs.Matched.{demand2 as of-match}
 use Rattle.meaning.proofs.Cuts.{demand3 as of-cuts}
 use Rattle.demands.specs.Demand2.{Demand2}
 use Rattle.demands.specs.Demand3.{Demand3}
-use Rattle.demands.proofs.Meant.{meant}
+use Rattle.demands.proofs.Meant.{Handing, meant}
 
 -- THEOREM
-pub demand2 : Demand2 meant
-demand2 = record { degree = demand2-degree; match = of-match }
+pub demand2 : (H : Handing) → Demand2 (meant H)
+demand2 H = record { degree = demand2-degree; match = of-match }
 
 -- THEOREM
-pub demand3 : Demand3 meant
-demand3 =
+pub demand3 : (H : Handing) → Demand3 (meant H)
+demand3 H =
     record {
       cuts = λ table pattern heading cut₁ spans₁ sets₁ cut₂ spans₂ sets₂ up a₁ a₂. of-cuts table pattern heading cut₁ spans₁ sets₁ cut₂ spans₂ sets₂ up a₁ a₂;
     }

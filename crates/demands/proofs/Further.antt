@@ -20,7 +20,7 @@ use Rattle.meaning.proofs.Back.{reads-back}
 use Rattle.meaning.proofs.RoundTrip.{round-trip}
 use Rattle.meaning.proofs.Saved.{widens}
 use Rattle.meaning.proofs.AsToday.{as-today}
-use Rattle.meaning.proofs.Parts.{terms, subterms, nearest}
+use Rattle.meaning.proofs.Parts.{terms}
 use Rattle.meaning.proofs.Matched.{Ready, ready, demand2 as of-match}
 use Rattle.meaning.proofs.Reasons.{reasons}
 use Rattle.meaning.proofs.Sentences.{sentences}
@@ -28,10 +28,11 @@ use Rattle.meaning.proofs.Spans.{answered-none, packed-in-order, variable-degre
 use Rattle.meaning.proofs.NoOverlap.{no-overlap}
 use Rattle.meaning.proofs.TopCut.{matchers-make-it, same-heading, at-top-cut}
 use Rattle.demands.specs.Further.{MatchSays, Further}
-use Rattle.demands.proofs.Meant.{meant}
+use Rattle.demands.proofs.Meant.{Handing, HandsBack, meant}
 use Rattle.demands.proofs.Demand1.{demand1}
 use Rattle.demands.proofs.Demands.{demand2}
-use Rattle.demands.proofs.Paired.{lowest-paired, higher-handed}
+use Rattle.demands.proofs.Paired.{lowest-paired}
+use Rattle.demands.proofs.Handed.{handed-back}
 use Rattle.demands.proofs.Stated.{Stated, stated}
 use Rattle.demands.proofs.Richer.{loses-nothing, stays-answered}
 use Rattle.demands.proofs.NamedAlone.{named-alone}
@@ -43,7 +44,7 @@ is-table file = (
   (λ t. rw (recognised file .1 t)),
 )
 
-says : (table pattern heading : List ℕ) (cut : ℕ) (spans sets : List ℕ) → Accepted table pattern heading cut spans sets
+pub says : (table pattern heading : List ℕ) (cut : ℕ) (spans sets : List ℕ) → Accepted table pattern heading cut spans sets
     → (p : Pattern) → WritesPattern (tableIn table) pattern p → (h : Term) → WritesTerm (tableIn table) heading h
     → MatchSays (tableIn table) cut p h pattern (matchCall table pattern heading cut spans sets)
 says table pattern heading cut spans sets a p wp h wh =
@@ -75,36 +76,34 @@ accepted : (table : List ℕ) → isTable table ≡ gives aye → SoundFile tabl
 unfolding isTable
 accepted table e = unless-gives (first (tableRows table)) aye aye e .0
 
-match-stated : (table pattern heading : List ℕ) (cut : ℕ) (spans sets : List ℕ) → Stated table pattern heading cut spans sets (matchCall table pattern heading cut spans sets)
-match-stated table pattern heading cut spans sets = stated meant demand1 demand2 table pattern heading cut spans sets (says table pattern heading cut spans sets)
+match-stated : (H : Handing) → HandsBack H → (table pattern heading : List ℕ) (cut : ℕ) (spans sets : List ℕ) → Stated table pattern heading cut spans sets (matchCall table pattern heading cut spans sets)
+match-stated H k table pattern heading cut spans sets = stated (meant H) (demand1 H k) (demand2 H) table pattern heading cut spans sets (says table pattern heading cut spans sets)
 
 -- THEOREM
-pub further : Further meant
-further =
+pub further : (H : Handing) → HandsBack H → Further (meant H)
+further H k =
     record {
       recognised = is-table;
       top-not-listed = top-not-listed;
       top-not-written = top-not-written;
       symbol-degrees = symbol-degrees;
-      named-there-alone = named-alone meant demand1;
+      named-there-alone = named-alone (meant H) (demand1 H k);
       reads-back = reads-back;
       round-trip = round-trip;
       terms = terms;
       paired = lowest-paired;
       same-heading = same-heading;
-      subterms = subterms;
-      nearest = nearest;
-      higher = higher-handed;
+      handed-back = handed-back H k;
       matches = says;
       matchers-make-it = λ table e. matchers-make-it table (accepted table e);
       top-cut = at-top;
       made-richer = λ table₁ table₂ e₁ e₂. made-richer table₁ table₂ (accepted table₁ e₁) (accepted table₂ e₂);
       richer = λ table₁ table₂ pattern heading cut spans₁ sets₁ spans₂ sets₂ more.
           loses-nothing table₁ table₂ pattern heading cut spans₁ sets₁ spans₂ sets₂ _ _ more
-          (match-stated table₁ pattern heading cut spans₁ sets₁) (match-stated table₂ pattern heading cut spans₂ sets₂);
+          (match-stated H k table₁ pattern heading cut spans₁ sets₁) (match-stated H k table₂ pattern heading cut spans₂ sets₂);
       stays-answered = λ table₁ table₂ pattern heading cut spans sets more e₂.
           stays-answered table₁ table₂ pattern heading cut spans sets _ _ more (accepted table₂ e₂)
-          (match-stated table₁ pattern heading cut spans sets) (match-stated table₂ pattern heading cut spans sets);
+          (match-stated H k table₁ pattern heading cut spans sets) (match-stated H k table₂ pattern heading cut spans sets);
       widens = widens;
       as-today = as-today;
     }

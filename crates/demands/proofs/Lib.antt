@@ -5,6 +5,7 @@ pub mod Meant
 pub mod Demand1
 pub mod Demands
 pub mod Paired
+pub mod Handed
 pub mod NamedAlone
 pub mod Stated
 pub mod PackedAlike
@@ -14,6 +15,7 @@ pub mod Keeps
 pub mod Public
 pub mod Unique
 -- every hypothesis can be met
+pub mod Handing
 pub mod Lent
 pub mod Instances
 -- wrong programs, and the statement at which each fails

@@ -1,22 +1,33 @@
--- The program that the meaning is. A program that keeps its promises is equal to it, call by call; so what holds of it holds of every such
--- program, and any two such programs are equal.
+-- The program that the meaning is, whatever two calls hand lists back in it. A program that keeps its promises is equal to the one with its own two, call
+-- by call; so what holds of the meaning's program holds of every such program, and no caller can tell two of them apart.
 use mathlib.Core.Path.{_≡_, sym as inv, _∙_, subst}
 use mathlib.Core.List.{List}
 use Prim.Native.Nat.{ℕ}
-use Rattle.meaning.specs.Calls.{isTable, symbolDegree, headingDegree, subterm, nearer, Matched, matchCall, arityBack, pairBack}
+use Rattle.meaning.specs.Calls.{isTable, symbolDegree, headingDegree, Matched, matchCall, arityBack, pairBack}
 use Rattle.meaning.specs.Tables.{writeCall}
 use Rattle.meaning.specs.Saved.{widenCall}
-use Rattle.demands.specs.Program.{Program, Promise}
+use Rattle.headings.specs.Terms.{Nodes, Subterm, Nearer}
+use Rattle.headings.proofs.OneTerm.{one-subterm, one-nearer}
+use Rattle.demands.specs.Program.{Program, Promise, Alike}
+
+-- the two calls that hand a list back, and what they promise
+pub record Handing : Type 0 where
+  pub subterm : (table : List ℕ) (term : Nodes) (i : ℕ) → Nodes
+  pub nearer : (table heading : List ℕ) (one two : Nodes) → Nodes
+
+pub record HandsBack (H : Handing) : Type 0 where
+  pub subterm : (table : List ℕ) (term : Nodes) (i : ℕ) → Subterm table term i (H .subterm table term i)
+  pub nearer : (table heading : List ℕ) (one two : Nodes) → Nearer table heading one two (H .nearer table heading one two)
 
 -- the meaning's calls, with some match or other
-abbrev pub withMatch : ((table pattern heading : List ℕ) (cut : ℕ) (spans sets : List ℕ) → Matched) → Program
-withMatch other =
+abbrev pub withMatch : Handing → ((table pattern heading : List ℕ) (cut : ℕ) (spans sets : List ℕ) → Matched) → Program
+withMatch H other =
     record {
       isTable = isTable;
       symbolDegree = symbolDegree;
       headingDegree = headingDegree;
-      subterm = subterm;
-      nearer = nearer;
+      subterm = H .subterm;
+      nearer = H .nearer;
       match = other;
       writeTable = writeCall;
       arityOf = arityBack;
@@ -24,19 +35,26 @@ withMatch other =
       widen = widenCall;
     }
 
-abbrev pub meant : Program
-meant = withMatch matchCall
+abbrev pub meant : Handing → Program
+meant H = withMatch H matchCall
+
+-- those of a program
+abbrev pub handing : Program → Handing
+handing P = record { subterm = P .subterm; nearer = P .nearer }
+
+pub hands-back : (P : Program) → Promise P → HandsBack (handing P)
+hands-back P k = record { subterm = k .subterm; nearer = k .nearer }
 
 -- LAW: a program that keeps its promises is the meaning's
-pub is-meant : (P : Program) → Promise P → P ≡ meant
+pub is-meant : (P : Program) → Promise P → P ≡ meant (handing P)
 is-meant P k =
     λ i.
     record {
       isTable = λ table. k .is-table table i;
       symbolDegree = λ table a b. k .symbol-degree table a b i;
       headingDegree = λ table one two. k .heading-degree table one two i;
-      subterm = λ table term j. k .subterm table term j i;
-      nearer = λ table heading one two. k .nearer table heading one two i;
+      subterm = P .subterm;
+      nearer = P .nearer;
       match = λ table pattern heading cut spans sets. k .match table pattern heading cut spans sets i;
       writeTable = λ arities pairs output. k .write-table arities pairs output i;
       arityOf = λ table symbol. k .arity-of table symbol i;
@@ -44,10 +62,22 @@ is-meant P k =
       widen = λ words output. k .widen words output i;
     }
 
--- THEOREM: what is returned and left in lent memory is fixed: two programs that keep their promises are equal
-pub one-program : (P Q : Program) → Promise P → Promise Q → P ≡ Q
-one-program P Q p q = is-meant P p ∙ inv (is-meant Q q)
+-- LAW: what holds of the meaning's program, with the program's own two calls, holds of a program that keeps its promises
+pub carried : (S : Program → Type 0) (P : Program) → Promise P → S (meant (handing P)) → S P
+carried S P k = subst S (inv (is-meant P k))
 
--- LAW: what holds of the meaning's program holds of every program that keeps its promises
-pub carried : (S : Program → Type 0) → S meant → (P : Program) → Promise P → S P
-carried S s P k = subst S (inv (is-meant P k)) s
+-- THEOREM: what is returned and left in lent memory is fixed: two programs that keep their promises are alike
+pub one-program : (P Q : Program) → Promise P → Promise Q → Alike P Q
+one-program P Q p q =
+    record {
+      is-table = λ table. p .is-table table ∙ inv (q .is-table table);
+      symbol-degree = λ table a b. p .symbol-degree table a b ∙ inv (q .symbol-degree table a b);
+      heading-degree = λ table one two. p .heading-degree table one two ∙ inv (q .heading-degree table one two);
+      subterm = λ table term i. let e = one-subterm table term i _ _ (p .subterm table term i) (q .subterm table term i) in (e .holds, e .lies);
+      nearer = λ table heading one two. let e = one-nearer table heading one two _ _ (p .nearer table heading one two) (q .nearer table heading one two) in (e .holds, e .lies);
+      match = λ table pattern heading cut spans sets. p .match table pattern heading cut spans sets ∙ inv (q .match table pattern heading cut spans sets);
+      write-table = λ arities pairs output. p .write-table arities pairs output ∙ inv (q .write-table arities pairs output);
+      arity-of = λ table symbol. p .arity-of table symbol ∙ inv (q .arity-of table symbol);
+      pair-of = λ table index. p .pair-of table index ∙ inv (q .pair-of table index);
+      widen = λ words output. p .widen words output ∙ inv (q .widen words output);
+    }

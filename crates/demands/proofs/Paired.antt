@@ -10,7 +10,6 @@ use native.Mathlib.Decide.{decLt}
 use native.Mathlib.Omega.{arith}
 use lib.Dec.{ltb}
 use lib.ListN.{length, getD}
-use borrow.Author.Tests.{lt-ltb, le-ltb}
 use Rattle.theory.specs.Tree.{Term, node, enc}
 use Rattle.theory.specs.Table.{degree}
 use Rattle.theory.proofs.Flat.{flat, degree-flat}
@@ -24,8 +23,7 @@ use Rattle.meaning.proofs.Sound.{passed, length-aritiesIn, sound}
 use Rattle.meaning.proofs.Degrees.{gives-degree}
 use Rattle.meaning.proofs.Trees.{demand2-degree}
 use Rattle.meaning.proofs.Drawn.{getD-any}
-use Rattle.demands.specs.Program.{handedBack}
-use Rattle.demands.specs.Further.{LowestPaired, HigherHanded}
+use Rattle.demands.specs.Further.{LowestPaired}
 
 -- ---- the least over the positions of two lists
 
@@ -128,17 +126,24 @@ module _ (table heading one two : List ℕ) (d e : ℕ) (f : headingDegree table
       first-append (tableRows table) rest (a .0) ∙ silent-first rest (a .1 .0, (a .1 .1, (parts table heading two e g .1 .1, tt)))
 
   -- the nearer is chosen by the two degrees
-  chosen : nearer table heading one two ≡ cond (ltb d e) theSecond theFirst
+  pub chosen : nearer table heading one two ≡ cond (ltb d e) theSecond theFirst
   unfolding nearer headingDegree
   chosen =
       let n = unless-gives (first (degreeRows table heading one)) _ d f .1 in
       let m = unless-gives (first (degreeRows table heading two)) _ e g .1 in
       rw (none-refused, n, m)
 
--- THEOREM: the list handed back is the candidate with the higher degree
-pub higher-handed : (table heading one two : List ℕ) → HigherHanded (headingDegree table heading) one two (handedBack (nearer table heading one two) one two)
-higher-handed table heading one two =
-    record {
-      the-first = λ d e f g l. rw (chosen table heading one two d e f g, le-ltb d e l);
-      the-second = λ d e f g l. rw (chosen table heading one two d e f g, lt-ltb d e l);
-    }
+-- where nothing is refused, both degrees are given
+pub both-given : (table heading one two : List ℕ) → first (nearerRows table heading one two) ≡ none → (first (degreeRows table heading one) ≡ none) × (first (degreeRows table heading two) ≡ none)
+unfolding nearerRows degreeRows row6 row7
+both-given table heading one two q =
+    let T = tableIn table in
+    let rest = row7 T heading ∷ row7 T one ∷ row7 T two ∷ [] in
+    let r = append-none (tableRows table) rest q in
+    let s = all-silent rest (r .1) in
+    (with-one one (r .0) (s .0) (s .1 .0), with-one two (r .0) (s .0) (s .1 .1 .0))
+  where
+    with-one : (list : List ℕ) → SoundFile table → Silent (row7 (tableIn table) heading) → Silent (row7 (tableIn table) list) → first (degreeRows table heading list) ≡ none
+    with-one list s a b =
+        let rest = row6 (tableIn table) false heading ∷ row7 (tableIn table) list ∷ [] in
+        first-append (tableRows table) rest s ∙ silent-first rest (a, (b, tt))

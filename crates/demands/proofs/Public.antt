@@ -1,5 +1,5 @@
 -- The demands of what users run: results that the public promises allow are a program that keeps its promises, so that every demand holds of them.
-use mathlib.Core.Path.{_≡_, refl, ap₂, _∙_}
+use mathlib.Core.Path.{_≡_, ap₂, _∙_}
 use mathlib.Core.List.{List}
 use Prim.Native.Nat.{ℕ}
 use Rattle.theory.specs.Pairs.{Pair}
@@ -38,8 +38,8 @@ module _ (C : Calls) (k : Kept C) where
         is-table = k .is-table;
         symbol-degree = k .symbol-degree;
         heading-degree = k .heading-degree;
-        subterm = λ table term i. refl;
-        nearer = λ table heading one two. refl;
+        subterm = k .subterm;
+        nearer = k .nearer;
         match = matches;
         write-table = writes;
         arity-of = k .arity-of;

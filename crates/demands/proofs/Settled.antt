@@ -3,31 +3,36 @@
 use mathlib.Core.Path.{_≡_, refl, sym as inv, ap, ap₂, _∙_, subst}
 use mathlib.Core.Logic.{_⊎_, inl, inr}
 use mathlib.Core.List.{List, [], _∷_}
-use mathlib.Core.Bool.{Bool, true, false, _&&_}
+use mathlib.Core.Bool.{Bool, true, false, _&&_, cond}
 use mathlib.Core.Option.{Option, none, some as just, Option·some-ne-none, Option·some-injective}
 use Prim.Native.Nat.{ℕ, zero, suc, _≤_, _<_}
 use native.Mathlib.Nat.{not-suc-le-zero}
 use native.Mathlib.Decide.{decLt, ℕ-discrete}
 use native.Mathlib.Omega.{arith}
-use lib.Dec.{eqb}
+use lib.Dec.{eqb, ltb}
 use lib.ListN.{length, getD}
-use borrow.Author.Tests.{eqb-true}
-use Rattle.theory.specs.Tree.{Pattern, encₚ}
+use borrow.Author.Tests.{eqb-true, lt-ltb, le-ltb}
+use denote.Ref.{now}
+use Rattle.theory.specs.Tree.{encₚ}
 use Rattle.theory.specs.Table.{degree}
 use Rattle.theory.specs.Pairs.{Pair, pair, isPair}
 use Rattle.theory.proofs.Lemmas.{and-left, and-right, last-or-below}
 use Rattle.theory.proofs.Verdict.{or-cases}
 use Rattle.meaning.specs.File.{symbolCount, pairCount, pairsIn, tableIn}
 use Rattle.meaning.specs.Refusals.{Refusal, refusal, Row, first, row13, tableRows}
-use Rattle.meaning.specs.Calls.{Answer, refused, gives, Yes, aye, symbolRows, degreeRows, part, subtermRows, nearerRows}
+use Rattle.meaning.specs.Calls.{Answer, refused, gives, Yes, aye, symbolRows, degreeRows, headingDegree, part, subtermRows, subterm, theFirst, theSecond, nearerRows, nearer}
 use Rattle.meaning.specs.Demands.{Exactly}
 use Rattle.meaning.specs.Tables.{SymbolDegrees}
-use Rattle.meaning.specs.Parts.{subtermAt, NearerIs}
+use Rattle.meaning.specs.Parts.{SubtermIs}
 use Rattle.meaning.proofs.First.{first-given, given-first, append-none}
+use Rattle.meaning.proofs.Parts.{subterms, nearest}
+use Rattle.headings.specs.Terms.{Nodes, PartOf, IsPart, Subterm, IsChosen, Nearer}
 use Rattle.demands.specs.Program.{Program}
+use Rattle.demands.specs.Handed.{EmptyAt, HandedBack}
 use Rattle.demands.specs.Demand1.{Refuses, Demand1}
 use Rattle.demands.specs.Demand2.{Demand2}
 use Rattle.demands.specs.Further.{Further}
+use Rattle.demands.proofs.Paired.{chosen, both-given}
 
 -- ---- two answers that are refused exactly by the same rows
 
@@ -125,49 +130,58 @@ module _ (P Q : Program) (one : Demand1 P) (one′ : Demand1 Q) (two : Demand2 P
       ∙ ap₂ (λ t u. gives (degree (tableIn table) t u)) (y .writes-one .only (x .t) (x .writes-one .holds)) (y .writes-two .only (x .u) (x .writes-two .holds))
       ∙ inv (y .published))
 
-  -- the subterm that a tree has at an index
-  pub same-subterm : (table term : List ℕ) (i : ℕ) → P .subterm table term i ≡ Q .subterm table term i
-  same-subterm table term i = go (first (subtermRows table term)) refl (decLt i (length term))
-    where
-      one-subterm : (p : Pattern) (q r : Pattern) → subtermAt p i ≡ just q → subtermAt p i ≡ just r → length (encₚ q) ≡ length (encₚ r)
-      one-subterm p q r e f = ap (λ x. length (encₚ x)) (Option·some-injective q r (inv e ∙ f))
+-- ---- what is handed back
 
-      go : (o : Option Refusal) → first (subtermRows table term) ≡ o → Dec (i < length term) → P .subterm table term i ≡ Q .subterm table term i
+empty-part : (list r : Nodes) → EmptyAt list r → PartOf list r 0 0
+empty-part list r x = record { holds = x .no-nodes; block = x .block; offset = omega (arith, x .offset) }
+
+module _ (P : Program) (one : Demand1 P) (more : HandedBack P) where
+  -- LAW: a tree has one subterm at an index
+  pub settled-subterm : (table : List ℕ) (term : Nodes) (i : ℕ) → Subterm table term i (P .subterm table term i)
+  settled-subterm table term i = go (first (subtermRows table (now term))) refl (decLt i (length (now term)))
+    where
+      r : Nodes
+      r = P .subterm table term i
+
+      nowhere : subterm table (now term) i ≡ part 0 0 → Refuses (subtermRows table (now term)) ⊎ (length (now term) ≤ i) → IsPart term r (subterm table (now term) i)
+      nowhere e x = rw e (empty-part term r (one .subterm table term i .1 x))
+
+      there : SubtermIs table (now term) i (subterm table (now term) i) → first (subtermRows table (now term)) ≡ none → i < length (now term) → IsPart term r (subterm table (now term) i)
+      there s q l =
+          let x = more .the-subterm table term i q l (s .p) (s .writes-term .holds) in
+          let e : x .0 ≡ s .q = Option·some-injective (x .0) (s .q) (inv (x .1) ∙ s .subterm-is) in
+          rw (s .handed-back) (record { holds = x .2 .nodes ∙ ap encₚ e ∙ inv (s .holds-it); block = x .2 .block; offset = x .2 .offset })
+
+      go : (o : Option Refusal) → first (subtermRows table (now term)) ≡ o → Dec (i < length (now term)) → IsPart term r (subterm table (now term) i)
       go (just (refusal n place)) q d =
-          let g = first-given (subtermRows table term) n place q in
-          more .subterms .refused-part table term i n place g ∙ inv (more′ .subterms .refused-part table term i n place g)
-      go none q (no m) = more .subterms .outside-part table term i (omega arith) ∙ inv (more′ .subterms .outside-part table term i (omega arith))
-      go none q (yes m) =
-          let x = more .subterms .found table term i q m in
-          let y = more′ .subterms .found table term i q m in
-          let e = y .writes-term .only (x .p) (x .writes-term .holds) in
-          x .handed-back ∙ ap (part i) (one-subterm (y .p) (x .q) (y .q) (subst (λ p. subtermAt p i ≡ just (x .q)) e (x .subterm-is)) (y .subterm-is)) ∙ inv (y .handed-back)
+          let g = first-given (subtermRows table (now term)) n place q in
+          nowhere (subterms .refused-part table (now term) i n place g) (inl (n, place, g))
+      go none q (no m) = let l : length (now term) ≤ i = omega arith in nowhere (subterms .outside-part table (now term) i l) (inr l)
+      go none q (yes m) = there (subterms .found table (now term) i q m) q m
 
-  pub same-nearer : (table heading left right : List ℕ) → P .nearer table heading left right ≡ Q .nearer table heading left right
-  same-nearer table heading left right = go (first (nearerRows table heading left right)) refl
+  -- LAW: where nothing is refused both degrees are given, and they choose
+  pub settled-nearer : ((table left right : List ℕ) → P .headingDegree table left right ≡ headingDegree table left right)
+      → (table heading : List ℕ) (left right : Nodes) → Nearer table heading left right (P .nearer table heading left right)
+  settled-nearer degrees table heading left right = go (first (nearerRows table heading (now left) (now right))) refl
     where
-      go : (o : Option Refusal) → first (nearerRows table heading left right) ≡ o → P .nearer table heading left right ≡ Q .nearer table heading left right
+      r : Nodes
+      r = P .nearer table heading left right
+
+      by : (d e : ℕ) → P .headingDegree table heading (now left) ≡ gives d → P .headingDegree table heading (now right) ≡ gives e
+          → nearer table heading (now left) (now right) ≡ cond (ltb d e) theSecond theFirst
+      by d e f g = chosen table heading (now left) (now right) d e (inv (degrees table heading (now left)) ∙ f) (inv (degrees table heading (now right)) ∙ g)
+
+      by-degrees : (d e : ℕ) → P .headingDegree table heading (now left) ≡ gives d → P .headingDegree table heading (now right) ≡ gives e → Dec (d < e)
+          → IsChosen left right r (nearer table heading (now left) (now right))
+      by-degrees d e f g (yes l) = rw (by d e f g, lt-ltb d e l) (more .the-second table heading left right d e f g l)
+      by-degrees d e f g (no m) = let l : e ≤ d = omega arith in rw (by d e f g, le-ltb d e l) (more .the-first table heading left right d e f g l)
+
+      go : (o : Option Refusal) → first (nearerRows table heading (now left) (now right)) ≡ o → IsChosen left right r (nearer table heading (now left) (now right))
       go (just (refusal n place)) q =
-          let g : Refuses (nearerRows table heading left right) = (n, place, first-given (nearerRows table heading left right) n place q) in
-          one .nearer table heading left right .1 g ∙ inv (one′ .nearer table heading left right .1 g)
-      go none q = chosen (decLt (degree (tableIn table) (y .h) (y .t)) (degree (tableIn table) (y .h) (y .u)))
-        where
-          x : NearerIs table heading left right (P .nearer table heading left right)
-          x = more .nearest .found table heading left right q
-
-          y : NearerIs table heading left right (Q .nearer table heading left right)
-          y = more′ .nearest .found table heading left right q
-
-          -- they speak of the same trees
-          h-is : x .h ≡ y .h
-          h-is = y .writes-heading .only (x .h) (x .writes-heading .holds)
-
-          to-one : degree (tableIn table) (x .h) (x .t) ≡ degree (tableIn table) (y .h) (y .t)
-          to-one = ap₂ (degree (tableIn table)) h-is (y .writes-one .only (x .t) (x .writes-one .holds))
-
-          to-two : degree (tableIn table) (x .h) (x .u) ≡ degree (tableIn table) (y .h) (y .u)
-          to-two = ap₂ (degree (tableIn table)) h-is (y .writes-two .only (x .u) (x .writes-two .holds))
-
-          chosen : Dec (degree (tableIn table) (y .h) (y .t) < degree (tableIn table) (y .h) (y .u)) → P .nearer table heading left right ≡ Q .nearer table heading left right
-          chosen (yes l) = x .second-one .1 (omega (arith, to-one, to-two)) ∙ inv (y .second-one .1 l)
-          chosen (no m) = x .first-one .1 (omega (arith, to-one, to-two)) ∙ inv (y .first-one .1 (omega arith))
+          let g : Refuses (nearerRows table heading (now left) (now right)) = (n, place, first-given (nearerRows table heading (now left) (now right)) n place q) in
+          rw (nearest .neither-if table heading (now left) (now right) .1 g) (empty-part left r (one .nearer table heading left right .1 g))
+      go none q =
+          let rows = both-given table heading (now left) (now right) q in
+          let x = by-none (degreeRows table heading (now left)) _ (one .heading-degree table heading (now left)) (rows .0) in
+          let y = by-none (degreeRows table heading (now right)) _ (one .heading-degree table heading (now right)) (rows .1) in
+          by-degrees (x .0) (y .0) (x .1) (y .1) (decLt (x .0) (y .0))

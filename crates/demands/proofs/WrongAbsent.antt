@@ -30,7 +30,7 @@ use Rattle.demands.specs.Program.{Program}
 use Rattle.demands.specs.Demand2.{Demand2}
 use Rattle.demands.specs.Demand3.{Demand3}
 use Rattle.demands.specs.Further.{Further}
-use Rattle.demands.proofs.Meant.{withMatch}
+use Rattle.demands.proofs.Meant.{Handing, withMatch}
 use Rattle.demands.proofs.Demands.{demand2, demand3}
 use Rattle.demands.proofs.Instances.{met2}
 use Rattle.demands.proofs.Lent.{noSpans, noSets}
@@ -148,12 +148,12 @@ narrower-spoiled t p h c sp se c′ sp′ se′ l g e n =
         (degrees l g) (degrees (n .low₁) (n .high₁)) (stands 31 (patternOf (tableIn t) p)) e (n .first-answers)
 
 -- THEOREM: demands 2 and 3 allow it
-pub absent-meets : Demand2 (withMatch absent) × Demand3 (withMatch absent)
-absent-meets = (record { degree = demand2 .degree; match = of-match }, record { cuts = of-cuts })
+pub absent-meets : (H : Handing) → Demand2 (withMatch H absent) × Demand3 (withMatch H absent)
+absent-meets H = (record { degree = demand2 H .degree; match = of-match }, record { cuts = of-cuts })
   where
     of-match : (t p h : List ℕ) (c : ℕ) (sp se : List ℕ) → Accepted t p h c sp se → MatchOf t p h c (absent t p h c sp se)
     of-match t p h c sp se a =
-        let d = demand2 .match t p h c sp se a in
+        let d = demand2 H .match t p h c sp se a in
         let e = d .writes-pattern .only (patternOf (tableIn t) p) (ready t p h c sp se a .pattern-is .holds) in
         record {
           p = d .p;
@@ -166,7 +166,7 @@ absent-meets = (record { degree = demand2 .degree; match = of-match }, record { 
     of-cuts : (t p h : List ℕ) (c : ℕ) (sp se : List ℕ) (c′ : ℕ) (sp′ se′ : List ℕ) → c ≤ c′ → Accepted t p h c sp se → Accepted t p h c′ sp′ se′
         → CutsOf t p h c (absent t p h c sp se) c′ (absent t p h c′ sp′ se′)
     of-cuts t p h c sp se c′ sp′ se′ up a a′ =
-        let d = demand3 .cuts t p h c sp se c′ sp′ se′ up a a′ in
+        let d = demand3 H .cuts t p h c sp se c′ sp′ se′ up a a′ in
         record {
           p = d .p;
           h = d .h;

@@ -20,8 +20,7 @@ use Rattle.meaning.specs.Matching.{VariableDegrees}
 use Rattle.meaning.proofs.Examples.{T}
 use Rattle.demands.specs.Program.{Program}
 use Rattle.demands.specs.Further.{Further}
-use Rattle.demands.proofs.Meant.{meant}
-use Rattle.demands.proofs.Further.{further}
+use Rattle.demands.proofs.Further.{says}
 use Rattle.demands.proofs.Lent.{noSpans, noSets, image}
 
 -- ---- the question
@@ -74,8 +73,8 @@ module _ (P : Program) where
   own-degrees : Further P → given .answer ≡ gives (degrees 600 600) → VariableDegrees (tableIn T) 600 pattern-tree heading-tree given 600 600
   own-degrees f = f .matches T pattern heading 600 noSpans (noSets 4) passed pattern-tree writes-pattern heading-tree writes-heading .own-degrees 600 600
 
-meant-degrees : VariableDegrees (tableIn T) 600 pattern-tree heading-tree (given meant) 600 600
-meant-degrees = own-degrees meant further (ap (λ r. r .answer) right)
+meant-degrees : VariableDegrees (tableIn T) 600 pattern-tree heading-tree (matchCall T pattern heading 600 noSpans (noSets 4)) 600 600
+meant-degrees = says T pattern heading 600 noSpans (noSets 4) passed pattern-tree writes-pattern heading-tree writes-heading .own-degrees 600 600 (ap (λ r. r .answer) right)
 
 module _ (P : Program) (f : Further P) (low₀ high₀ low₁ high₁ : ℕ) (w : given P ≡ gave low₀ high₀ low₁ high₁) where
   -- LAW: x0's own degrees are 800 and 1000

@@ -20,7 +20,7 @@ use Rattle.demands.specs.Program.{Program}
 use Rattle.demands.specs.Demand1.{Demand1}
 use Rattle.demands.specs.Demand2.{Demand2}
 use Rattle.demands.specs.Demand3.{Demand3}
-use Rattle.demands.proofs.Meant.{withMatch}
+use Rattle.demands.proofs.Meant.{Handing, withMatch}
 use Rattle.demands.proofs.Demands.{demand2, demand3}
 use Rattle.demands.proofs.Wrong.{not-both}
 
@@ -57,16 +57,16 @@ as-it-was : (o : Option Refusal) (r : Matched) → o ≡ none → r ≡ laxly o 
 as-it-was o r e = rw e
 
 -- THEOREM: demands 2 and 3 allow it
-pub lax-meets : Demand2 (withMatch lax) × Demand3 (withMatch lax)
-lax-meets = (
+pub lax-meets : (H : Handing) → Demand2 (withMatch H lax) × Demand3 (withMatch H lax)
+lax-meets H = (
   record {
-    degree = demand2 .degree;
-    match = λ t p h c sp se a. subst (MatchOf t p h c) (as-it-was _ _ a) (demand2 .match t p h c sp se a);
+    degree = demand2 H .degree;
+    match = λ t p h c sp se a. subst (MatchOf t p h c) (as-it-was _ _ a) (demand2 H .match t p h c sp se a);
   },
   record {
     cuts = λ t p h c sp se c′ sp′ se′ up a a′.
         subst (λ r. CutsOf t p h c r c′ (lax t p h c′ sp′ se′)) (as-it-was _ _ a)
-        (subst (λ r. CutsOf t p h c (matchCall t p h c sp se) c′ r) (as-it-was _ _ a′) (demand3 .cuts t p h c sp se c′ sp′ se′ up a a′));
+        (subst (λ r. CutsOf t p h c (matchCall t p h c sp se) c′ r) (as-it-was _ _ a′) (demand3 H .cuts t p h c sp se c′ sp′ se′ up a a′));
   },
 )
 
@@ -146,14 +146,14 @@ abbrev pub muddling : (table pattern heading : List ℕ) (cut : ℕ) (spans sets
 muddling table pattern heading cut spans sets = muddled (matchCall table pattern heading cut spans sets)
 
 -- THEOREM: demands 2 and 3 allow it
-pub muddling-meets : Demand2 (withMatch muddling) × Demand3 (withMatch muddling)
-muddling-meets = (
+pub muddling-meets : (H : Handing) → Demand2 (withMatch H muddling) × Demand3 (withMatch H muddling)
+muddling-meets H = (
   record {
-    degree = demand2 .degree;
-    match = λ t p h c sp se a. of-match t p h c (matchCall t p h c sp se) (demand2 .match t p h c sp se a);
+    degree = demand2 H .degree;
+    match = λ t p h c sp se a. of-match t p h c (matchCall t p h c sp se) (demand2 H .match t p h c sp se a);
   },
   record {
-    cuts = λ t p h c sp se c′ sp′ se′ up a a′. of-cuts t p h c (matchCall t p h c sp se) c′ (matchCall t p h c′ sp′ se′) (demand3 .cuts t p h c sp se c′ sp′ se′ up a a′);
+    cuts = λ t p h c sp se c′ sp′ se′ up a a′. of-cuts t p h c (matchCall t p h c sp se) c′ (matchCall t p h c′ sp′ se′) (demand3 H .cuts t p h c sp se c′ sp′ se′ up a a′);
   },
 )
   where

@@ -6,14 +6,17 @@ use mathlib.Core.Logic.{_↔_, _⊎_}
 use mathlib.Core.List.{List}
 use Prim.Native.Nat.{ℕ, _≤_}
 use lib.ListN.{length}
+use denote.Ref.{now}
 use Rattle.theory.specs.Pairs.{Pair}
 use Rattle.meaning.specs.File.{symbolCount, pairCount}
 use Rattle.meaning.specs.Refusals.{Row, Given, tableRows}
-use Rattle.meaning.specs.Calls.{refused, symbolRows, degreeRows, part, subtermRows, neither, nearerRows, lowestIn, highestIn, matchRows, writerRows, backRows}
+use Rattle.meaning.specs.Calls.{refused, symbolRows, degreeRows, subtermRows, nearerRows, lowestIn, highestIn, matchRows, writerRows, backRows}
 use Rattle.meaning.specs.Saved.{widenRows}
 use Rattle.meaning.specs.Demands.{Exactly, Order}
 use Rattle.meaning.specs.Matching.{Leaves, Lengths}
+use Rattle.headings.specs.Terms.{Nodes}
 use Rattle.demands.specs.Program.{Program}
+use Rattle.demands.specs.Handed.{EmptyAt}
 
 -- One of the rows refuses.
 abbrev pub Refuses : List Row → Type 0
@@ -31,8 +34,8 @@ pub record Demand1 (P : Program) : Type 0 where
   pub pair-of : (table : List ℕ) (index : ℕ) → Exactly (backRows table index (pairCount table)) (P .pairOf table index)
   pub widen : (words output : List ℕ) → Exactly (widenRows words output) (P .widen words output .answer)
   -- refusals that show in what is handed back
-  pub subterm : (table term : List ℕ) (i : ℕ) → P .subterm table term i ≡ part 0 0 ↔ (Refuses (subtermRows table term) ⊎ (length term ≤ i))
-  pub nearer : (table heading one two : List ℕ) → P .nearer table heading one two ≡ neither ↔ Refuses (nearerRows table heading one two)
+  pub subterm : (table : List ℕ) (term : Nodes) (i : ℕ) → EmptyAt term (P .subterm table term i) ↔ (Refuses (subtermRows table (now term)) ⊎ (length (now term) ≤ i))
+  pub nearer : (table heading : List ℕ) (one two : Nodes) → EmptyAt one (P .nearer table heading one two) ↔ Refuses (nearerRows table heading (now one) (now two))
   -- the numbers of the rows, in the order tested
   pub order : Order
   -- what a refused match returns, and what is left in lent memory

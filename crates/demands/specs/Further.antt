@@ -15,10 +15,11 @@ use Rattle.meaning.specs.Calls.{Answer, refused, gives, degreeRows, aye, Degree
 use Rattle.meaning.specs.Demands.{WritesTerm, WritesPattern, Accepted}
 use Rattle.meaning.specs.Tables.{TableFile, TopNotListed, TopNotWritten, SymbolDegrees, MadeRicher, ReadBack, RoundTrip}
 use Rattle.meaning.specs.Saved.{savedRoom, Widens, leftThen}
-use Rattle.meaning.specs.Parts.{TermLists, Subterms, Nearest}
+use Rattle.meaning.specs.Parts.{TermLists}
 use Rattle.meaning.specs.Matching.{Reasons, SetsAndDegrees, VariableDegrees, PackedInOrder, NoOverlap}
 use Rattle.meaning.specs.TopCut.{MatchersMakeIt, AtTopCut}
-use Rattle.demands.specs.Program.{Program, handedBack}
+use Rattle.demands.specs.Program.{Program}
+use Rattle.demands.specs.Handed.{HandedBack}
 use Rattle.demands.specs.Richer.{LosesNothing}
 
 -- ---- headings, by what the program itself says of symbols and of headings
@@ -28,11 +29,6 @@ pub record LowestPaired (degreeOf : ℕ → ℕ → Answer ℕ) (one two : List 
   pub one-longer : (length one ≡ length two → ⊥) → d ≡ 0
   pub bounds : length one ≡ length two → (k : ℕ) → k < length one → (e : ℕ) → degreeOf (getD one k 0) (getD two k 0) ≡ gives e → d ≤ e
   pub reached : length one ≡ length two → (k : ℕ) × (k < length one) × (degreeOf (getD one k 0) (getD two k 0) ≡ gives d)
-
--- The list handed back is the candidate with the higher degree, whole; the first where the degrees are equal.
-pub record HigherHanded (degreeWith : List ℕ → Answer ℕ) (one two list : List ℕ) : Type 0 where
-  pub the-first : (d e : ℕ) → degreeWith one ≡ gives d → degreeWith two ≡ gives e → e ≤ d → list ≡ one
-  pub the-second : (d e : ℕ) → degreeWith one ≡ gives d → degreeWith two ≡ gives e → d < e → list ≡ two
 
 -- ---- a match that is not refused for its input or its room, of a list that writes p and one that writes h: the reasons of a refusal; the sets and
 -- the degrees of an answer, those of each variable, where its variables are packed, and why they always fit
@@ -70,9 +66,7 @@ pub record Further (P : Program) : Type 0 where
   pub terms : (table : List ℕ) → SoundFile table → TermLists table
   pub paired : (table one two : List ℕ) (d : ℕ) → P .headingDegree table one two ≡ gives d → LowestPaired (P .symbolDegree table) one two d
   pub same-heading : (table one two : List ℕ) → first (degreeRows table one two) ≡ none → P .headingDegree table one two ≡ gives 1000 ↔ (one ≡ two)
-  pub subterms : Subterms (P .subterm)
-  pub nearest : Nearest (P .nearer)
-  pub higher : (table heading one two : List ℕ) → HigherHanded (P .headingDegree table heading) one two (handedBack (P .nearer table heading one two) one two)
+  pub handed-back : HandedBack P
   -- the match
   pub matches : (table pattern heading : List ℕ) (cut : ℕ) (spans sets : List ℕ) → Accepted table pattern heading cut spans sets
       → (p : Pattern) → WritesPattern (tableIn table) pattern p → (h : Term) → WritesTerm (tableIn table) heading h

@@ -1,11 +1,12 @@
 -- The demands on the whole program, over any program whatever. `Program` says what a program is and what one promises; `Demand1`, `Demand2` and
--- `Demand3` are the three demands; `Further` is what else is said of the calls, with `Richer` on two tables. `Public` ties all of it to the public
--- calls: any results that their promises allow are such a program.
+-- `Demand3` are the three demands; `Further` is what else is said of the calls, with `Handed` on lists that are handed back and `Richer` on two tables.
+-- `Public` ties all of it to the public calls: any results that their promises allow are such a program.
 --
 -- Each is one record, a statement a field. What a statement says of one result, or of two, is in words of the crate `meaning`: specs/Refusals (rows),
 -- specs/Buffers (reading an answer), specs/Demands, specs/Tables, specs/Parts, specs/Matching, specs/TopCut. proofs/Keeps has the one theorem, that a
 -- program which keeps its promises meets them all; proofs/Settles the other direction, that a program which meets them keeps its promises.
 pub mod Program
+pub mod Handed
 pub mod Demand1
 pub mod Demand2
 pub mod Demand3

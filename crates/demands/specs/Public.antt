@@ -2,7 +2,6 @@
 use mathlib.Core.List.{List}
 use Prim.Native.Nat.{ℕ}
 use Rattle.meaning.specs.File.{numbersOf}
-use Rattle.meaning.specs.Calls.{subterm, nearer}
 use Rattle.writer.specs.Said.{said}
 use Rattle.writer.specs.declared.Writing.{Writing}
 use Rattle.refusal.specs.Outcomes.{resultOf}
@@ -56,16 +55,15 @@ pub record Kept (C : Calls) : Type 0 where
   pub pair-of : (table : List ℕ) (index : ℕ) → PairAt table index (C .pairOf table index)
   pub widen : (words output : List ℕ) → let w = C .widen words output in Widen words output (w .writing) (w .output)
 
--- What the calls say, as a program: numbers, places, values and buffers. (Which part of a list, and which of two candidates, is handed back is what the
--- promises of the subterm and the nearer name; that the reference is that one is in them.)
+-- What the calls say, as a program: numbers, places, values and buffers, and the references that they handed back.
 abbrev pub programOf : Calls → Program
 programOf C =
     record {
       isTable = λ table. saidTable (C .isTable table);
       symbolDegree = λ table a b. saidDegree (C .symbolDegree table a b);
       headingDegree = λ table one two. saidDegree (C .headingDegree table one two);
-      subterm = subterm;
-      nearer = nearer;
+      subterm = C .subterm;
+      nearer = C .nearer;
       match = λ table pattern heading cut spans sets.
           let m = C .match table pattern heading cut spans sets in resultOf (m .outcome) (m .spans) (m .sets);
       writeTable = λ arities pairs output.
