@@ -13,9 +13,11 @@ pub mod Richer
 pub mod Further
 pub mod Keeps
 pub mod Public
+pub mod OnNumbers
 pub mod Unique
 -- every hypothesis can be met
 pub mod Handing
+pub mod Possible
 pub mod Lent
 pub mod Instances
 -- wrong programs, and the statement at which each fails

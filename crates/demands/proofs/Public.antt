@@ -1,20 +1,24 @@
 -- The demands of what users run: results that the public promises allow are a program that keeps its promises, so that every demand holds of them.
-use mathlib.Core.Path.{_≡_, ap₂, _∙_}
-use mathlib.Core.List.{List}
+use mathlib.Core.Path.{_≡_, refl, ap, ap₂, _∙_}
+use mathlib.Core.List.{List, [], _∷_}
 use Prim.Native.Nat.{ℕ}
-use Rattle.theory.specs.Pairs.{Pair}
-use Rattle.meaning.specs.File.{pairsOf, numbersOf}
+use Rattle.theory.specs.Pairs.{Pair, pair}
 use Rattle.meaning.specs.Calls.{matchCall}
 use Rattle.meaning.specs.Tables.{writeCall}
 use Rattle.meaning.specs.Saved.{widenCall}
-use Rattle.writer.proofs.Numbers.{pairs-of-numbers}
+use Rattle.records.specs.Records.{listed}
 use Rattle.demands.specs.Program.{Promise}
-use Rattle.demands.specs.Public.{Calls, Kept, programOf}
+use Rattle.demands.specs.Public.{Calls, Kept, recordsOf, programOf}
 use Rattle.demands.specs.Demand1.{Demand1}
 use Rattle.demands.specs.Demand2.{Demand2}
 use Rattle.demands.specs.Demand3.{Demand3}
 use Rattle.demands.specs.Further.{Further}
 use Rattle.demands.proofs.Keeps.{keeps}
+
+-- the records of pairs list just these
+pub records-list : (pairs : List Pair) → listed (recordsOf pairs) ≡ pairs
+records-list [] = refl
+records-list (pair l h d ∷ pairs) = ap (λ ps. pair l h d ∷ ps) (records-list pairs)
 
 module _ (C : Calls) (k : Kept C) where
   matches : (table pattern heading : List ℕ) (cut : ℕ) (spans sets : List ℕ)
@@ -25,8 +29,8 @@ module _ (C : Calls) (k : Kept C) where
 
   writes : (arities : List ℕ) (pairs : List Pair) (output : List ℕ) → programOf C .writeTable arities pairs output ≡ writeCall arities pairs output
   writes arities pairs output =
-      let p = k .write-table arities (numbersOf pairs) output in
-      let e : pairsOf (numbersOf pairs) ≡ pairs = pairs-of-numbers pairs in
+      let p = k .write-records arities (recordsOf pairs) output in
+      let e : listed (recordsOf pairs) ≡ pairs = records-list pairs in
       ap₂ (λ a l. record { answer = a; output = l }) (p .answers) (p .leaves) ∙ rw e
 
   widens : (words output : List ℕ) → programOf C .widen words output ≡ widenCall words output

@@ -3,6 +3,7 @@ use Rattle.tables.proofs.OneTable.{one-table, one-symbol-degree, one-arity, one
 use Rattle.headings.proofs.OneTerm.{one-degree, one-subterm, one-nearer}
 use Rattle.matches.proofs.OneMatch.{one-match}
 use Rattle.tables.proofs.OneWriting.{one-writing}
+use Rattle.records.proofs.OneRecords.{one-writing as one-of-records}
 use Rattle.saved.proofs.OneWidening.{one-widening}
 use Rattle.demands.specs.Unique.{Unique}
 
@@ -16,6 +17,7 @@ unique =
       subterm = λ table term index r s p q. let e = one-subterm table term index r s p q in (e .holds, e .lies);
       nearer = λ table heading one two r s p q. let e = one-nearer table heading one two r s p q in (e .holds, e .lies);
       match = one-match;
+      write-records = one-of-records;
       write-table = one-writing;
       arity-of = one-arity;
       pair-of = one-pair-at;

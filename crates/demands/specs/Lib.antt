@@ -1,6 +1,7 @@
 -- The demands on the whole program, over any program whatever. `Program` says what a program is and what one promises; `Demand1`, `Demand2` and
 -- `Demand3` are the three demands; `Further` is what else is said of the calls, with `Handed` on lists that are handed back and `Richer` on two tables.
--- `Public` ties all of it to the public calls: any results that their promises allow are such a program.
+-- `Public` ties all of it to the public calls: any results that their promises allow are such a program, with one of the two writers; `OnNumbers` has the
+-- other.
 --
 -- Each is one record, a statement a field. What a statement says of one result, or of two, is in words of the crate `meaning`: specs/Refusals (rows),
 -- specs/Buffers (reading an answer), specs/Demands, specs/Tables, specs/Parts, specs/Matching, specs/TopCut. proofs/Keeps has the one theorem, that a
@@ -13,4 +14,5 @@ pub mod Demand3
 pub mod Richer
 pub mod Further
 pub mod Public
+pub mod OnNumbers
 pub mod Unique

@@ -1,7 +1,8 @@
 -- The public calls as users run them: any results, and any later contents of lent memory, that the calls' promises allow.
-use mathlib.Core.List.{List}
+use mathlib.Core.List.{List, map}
 use Prim.Native.Nat.{ℕ}
-use Rattle.meaning.specs.File.{numbersOf}
+use Rattle.theory.specs.Pairs.{Pair, pair}
+use Rattle.table.specs.declared.read.Pair.{Pair as Record}
 use Rattle.writer.specs.Said.{said}
 use Rattle.writer.specs.declared.Writing.{Writing}
 use Rattle.refusal.specs.Outcomes.{resultOf}
@@ -14,6 +15,7 @@ use Rattle.tables.specs.Tables.{saidTable, IsTable, saidDegree, SymbolDegree, s
 use Rattle.headings.specs.Terms.{Nodes, DegreeOfHeadings, Subterm, Nearer}
 use Rattle.matches.specs.Matching.{MatchHeading}
 use Rattle.tables.specs.Writing.{WriteTable}
+use Rattle.records.specs.Records.{WriteRecords}
 use Rattle.saved.specs.Widening.{Widen}
 use Rattle.demands.specs.Program.{Program}
 
@@ -27,7 +29,8 @@ pub record Written : Type 0 where
   pub writing : Writing
   pub output : List ℕ
 
--- What each call returned, for everything that was lent to it. A subterm and the nearer are handed back as references.
+-- What each call returned, for everything that was lent to it. A subterm and the nearer are handed back as references. There are two writers: one takes
+-- records, the other numbers, three to a pair.
 pub record Calls : Type 0 where
   pub isTable : List ℕ → TableAnswer
   pub symbolDegree : List ℕ → ℕ → ℕ → DegreeAnswer
@@ -35,6 +38,7 @@ pub record Calls : Type 0 where
   pub subterm : List ℕ → Nodes → ℕ → Nodes
   pub nearer : List ℕ → List ℕ → Nodes → Nodes → Nodes
   pub match : (table pattern heading : List ℕ) (cut : ℕ) (spans sets : List ℕ) → Matching
+  pub writeRecords : (arities : List ℕ) (records : List Record) (output : List ℕ) → Written
   pub writeTable : (arities numbers output : List ℕ) → Written
   pub arityOf : List ℕ → ℕ → ArityAnswer
   pub pairOf : List ℕ → ℕ → PairAnswer
@@ -49,13 +53,23 @@ pub record Kept (C : Calls) : Type 0 where
   pub nearer : (table heading : List ℕ) (one two : Nodes) → Nearer table heading one two (C .nearer table heading one two)
   pub match : (table pattern heading : List ℕ) (cut : ℕ) (spans sets : List ℕ)
       → let m = C .match table pattern heading cut spans sets in MatchHeading table pattern heading cut spans sets (m .outcome) (m .spans) (m .sets)
+  pub write-records : (arities : List ℕ) (records : List Record) (output : List ℕ)
+      → let w = C .writeRecords arities records output in WriteRecords arities records output (w .writing) (w .output)
   pub write-table : (arities numbers output : List ℕ)
       → let w = C .writeTable arities numbers output in WriteTable arities numbers output (w .writing) (w .output)
   pub arity-of : (table : List ℕ) (symbol : ℕ) → ArityOf table symbol (C .arityOf table symbol)
   pub pair-of : (table : List ℕ) (index : ℕ) → PairAt table index (C .pairOf table index)
   pub widen : (words output : List ℕ) → let w = C .widen words output in Widen words output (w .writing) (w .output)
 
--- What the calls say, as a program: numbers, places, values and buffers, and the references that they handed back.
+-- The records of pairs.
+abbrev pub recordOf : Pair → Record
+recordOf (pair lower higher degree) = record { lower = lower; higher = higher; degree = degree }
+
+abbrev pub recordsOf : List Pair → List Record
+recordsOf pairs = map recordOf pairs
+
+-- What the calls say, as a program: numbers, places, values and buffers, and the references that they handed back. Its writer is the one that takes records
+-- (`OnNumbers` has the other).
 abbrev pub programOf : Calls → Program
 programOf C =
     record {
@@ -67,7 +81,7 @@ programOf C =
       match = λ table pattern heading cut spans sets.
           let m = C .match table pattern heading cut spans sets in resultOf (m .outcome) (m .spans) (m .sets);
       writeTable = λ arities pairs output.
-          let w = C .writeTable arities (numbersOf pairs) output in record { answer = said (w .writing); output = w .output };
+          let w = C .writeRecords arities (recordsOf pairs) output in record { answer = said (w .writing); output = w .output };
       arityOf = λ table symbol. saidArity (C .arityOf table symbol);
       pairOf = λ table index. saidPair (C .pairOf table index);
       widen = λ words output. let w = C .widen words output in record { answer = said (w .writing); output = w .output };

@@ -4,6 +4,7 @@ use mathlib.Core.Path.{_≡_}
 use mathlib.Core.List.{List}
 use Prim.Native.Nat.{ℕ}
 use denote.Ref.{now, ptr}
+use Rattle.table.specs.declared.read.Pair.{Pair as Record}
 use Rattle.writer.specs.declared.Writing.{Writing}
 use Rattle.refusal.specs.declared.Outcome.{Outcome}
 use Rattle.tables.specs.declared.TableAnswer.{TableAnswer}
@@ -14,6 +15,7 @@ use Rattle.tables.specs.Tables.{IsTable, SymbolDegree, ArityOf, PairAt}
 use Rattle.headings.specs.Terms.{Nodes, DegreeOfHeadings, Subterm, Nearer}
 use Rattle.matches.specs.Matching.{MatchHeading}
 use Rattle.tables.specs.Writing.{WriteTable}
+use Rattle.records.specs.Records.{WriteRecords}
 use Rattle.saved.specs.Widening.{Widen}
 
 pub record Unique : Type 0 where
@@ -27,6 +29,8 @@ pub record Unique : Type 0 where
   pub match : (table pattern heading : List ℕ) (cut : ℕ) (spans sets : List ℕ) (r r′ : Outcome) (s s′ t t′ : List ℕ)
       → MatchHeading table pattern heading cut spans sets r s t → MatchHeading table pattern heading cut spans sets r′ s′ t′
       → (r ≡ r′) × (s ≡ s′) × (t ≡ t′)
+  pub write-records : (arities : List ℕ) (records : List Record) (output : List ℕ) (r s : Writing) (later after : List ℕ)
+      → WriteRecords arities records output r later → WriteRecords arities records output s after → (r ≡ s) × (later ≡ after)
   pub write-table : (arities numbers output : List ℕ) (r s : Writing) (later after : List ℕ)
       → WriteTable arities numbers output r later → WriteTable arities numbers output s after → (r ≡ s) × (later ≡ after)
   pub arity-of : (table : List ℕ) (symbol : ℕ) (r s : ArityAnswer) → ArityOf table symbol r → ArityOf table symbol s → r ≡ s
