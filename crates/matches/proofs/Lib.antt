@@ -1,3 +1,4 @@
--- Laws of the call, and that its promise allows one result.
+-- Laws of the call, that its promise allows one result, and that the call ensures it.
 pub mod Asked
 pub mod OneMatch
+pub mod Tied
