@@ -21,9 +21,12 @@ use Rattle.meaning.specs.Search.{symbolWorth}
 use Rattle.meaning.proofs.Sound.{sound}
 use Rattle.meaning.proofs.Parts.{is-term}
 use Rattle.meaning.proofs.Rated.{least-last, symbols-variable}
+use Rattle.terms.specs.Kinds.{kindOf}
 use Rattle.terms.specs.Walks.{walkIn}
+use Rattle.terms.specs.declared.kind.Kind.the-variants.{Neither}
 use Rattle.terms.specs.declared.walk.Walked.{Walked}
 use Rattle.terms.specs.declared.walk.Walked.the-variants.{Ends, Fault}
+use Rattle.terms.proofs.Nodes.{neither-kind}
 use Rattle.terms.proofs.Ends.{same-end, no-fault}
 
 -- ---- lists that are read over a table
@@ -62,6 +65,13 @@ module _ {T : Table} {xs ys : List ℕ} (r : Readable T xs ys) (cut : ℕ) where
     pub passing-end : length xs ≤ i
         → (clash T cut (allFaces T xs ys) ≡ none) × (lowest ≡ least (symbolWorth T) (allFaces T xs ys)) × Noted ys starts sizes (allFaces T xs ys)
     passing-end l = rw (← along-end r (p .along) l) (p .clear, p .lowest-is, p .noted)
+
+    -- LAW: at each node before stands a symbol or a variable
+    pub passing-kinds : i < length xs → kindOf (T .size) (getD xs i 0) ≡ Neither → ⊥
+    passing-kinds l e =
+        let n = neither-kind (T .size) (getD xs i 0) e in
+        let v = along-variable r (p .along) l (n .0) in
+        n .1 (omega (arith, v .variable)) (omega (arith, v .variable, v .below))
 
     -- ---- at a symbol
 

@@ -11,6 +11,8 @@ use degrees::counted_degree;
 use degrees::lesser;
 use table::read::pair_count;
 use table::read::symbol_count;
+use terms::kind::Kind;
+use terms::kind::kind_of;
 use terms::walk::Walked;
 use terms::walk::walk_from;
 
@@ -42,26 +44,25 @@ pub fn face(
     // i goes along the pattern, and this along the heading
     let mut at: usize = 0;
     for i in 0..pattern.len() {
-        let node = pattern[i];
-        if node < symbols {
-            let degree = counted_degree(table, symbols, pairs, node, heading[at]);
-            if degree < cut {
-                return Facing::Clash(i);
+        match kind_of(symbols, pattern[i]) {
+            Kind::Symbol(symbol) => {
+                let degree = counted_degree(table, symbols, pairs, symbol, heading[at]);
+                if degree < cut {
+                    return Facing::Clash(i);
+                }
+                least = lesser(least, degree);
+                at += 1;
             }
-            least = lesser(least, degree);
-            at += 1;
-        } else {
-            match walk_from(table, false, heading, 64, at) {
+            Kind::Variable(_) => match walk_from(table, false, heading, 64, at) {
                 Walked::Ends(end) => {
                     starts[i] = at as u16;
                     sizes[i] = (end - at) as u16;
                     at = end;
                 }
-                // never so: in a heading the walk from a subterm's start ends
-                Walked::Fault(place) => {
-                    return Facing::Clash(place);
-                }
-            }
+                // never so, nor the arm below: the walk from a subterm's start ends, and a pattern has no other node
+                Walked::Fault(_) => {}
+            },
+            Kind::Neither => {}
         }
     }
     Facing::Clear(least)

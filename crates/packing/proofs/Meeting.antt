@@ -2,14 +2,12 @@
 -- the others; any other node leaves all as it was. The heading has room for each variable, since it has for all of them.
 use mathlib.Core.Path.{_≡_, refl, sym as inv, ap, _∙_}
 use mathlib.Core.List.{List, [], _∷_, _++_, append-assoc, append-nil}
-use mathlib.Core.Bool.{Bool, true, false, _&&_, cond}
-use Prim.Native.Nat.{ℕ, _+_, _-_, _*_, _≤_, _<_}
+use mathlib.Core.Bool.{Bool, true, false, cond}
+use Prim.Native.Nat.{ℕ, _+_, _*_, _≤_, _<_}
 use native.Mathlib.Nat.{not-suc-le-zero}
 use native.Mathlib.Omega.{arith}
-use lib.Dec.{ltb, leb}
 use lib.ListN.{length, getD, take, drop, length-append, take-append-drop}
 use lib.Seq.{take-all}
-use borrow.Author.Tests.{ltb-true, leb-true}
 use Rattle.theory.specs.Tree.{Term}
 use Rattle.theory.specs.Table.{Table}
 use Rattle.theory.specs.Faces.{Face, meets, binds, facing, nodeOf}
@@ -26,8 +24,8 @@ use Rattle.meaning.proofs.Loop.{variables-symbol, order-variable, sum-last}
 use Rattle.meaning.proofs.Ordered.{order-symbol, order-met, order-new}
 use Rattle.meaning.proofs.NoOverlap.{packed-few-read}
 use Rattle.terms.specs.Kinds.{kindOf}
-use Rattle.terms.specs.declared.kind.Kind.the-variants.{Symbol, Variable, Neither}
-use Rattle.terms.proofs.Nodes.{kind-variable}
+use Rattle.terms.specs.declared.kind.Kind.the-variants.{Variable}
+use Rattle.terms.proofs.Nodes.{kind-variable, variable-kind}
 use Rattle.packing.specs.Pack.{Packable, PackedNext, PackedAll}
 use Rattle.packing.specs.declared.Search.{Search}
 use Rattle.packing.proofs.Notes.{reads, nodes-face}
@@ -51,18 +49,6 @@ module _ (count : ℕ → ℕ) where
   grows xs (y ∷ ys) = omega (arith, grows-one xs y, grows (xs ++ (y ∷ [])) ys, ap (λ l. sum count (order l)) (append-assoc xs (y ∷ []) ys))
 
 -- ---- at a node of the pattern
-
--- LAW: a node whose kind is a variable
-pub variable-kind : (s x v : ℕ) → kindOf s x ≡ Variable v → (x ≡ 32768 + v) × (v < variableCount)
-unfolding kindOf
-variable-kind s x v e = go (ltb x s) (leb 32768 x) refl (ltb x 32800) refl e
-  where
-    go : (a b : Bool) → leb 32768 x ≡ b → (c : Bool) → ltb x 32800 ≡ c → cond a (Symbol x) (cond (b && c) (Variable (x - 32768)) Neither) ≡ Variable v
-        → (x ≡ 32768 + v) × (v < variableCount)
-    go true b p c q e = let z : _≡_ {A = ℕ} 0 1 = cc in absurd (omega arith)
-    go false false p c q e = let z : _≡_ {A = ℕ} 0 1 = cc in absurd (omega arith)
-    go false true p false q e = let z : _≡_ {A = ℕ} 0 1 = cc in absurd (omega arith)
-    go false true p true q e = let w : x - 32768 ≡ v = cc in (omega (arith, leb-true 32768 x p), omega (arith, ltb-true x 32800 q))
 
 -- a variable that stands at a node has positions
 some-positions : (ts : List Term) → 0 < length ts → 0 < positions ts

@@ -67,7 +67,8 @@ fn pack_next(
     requires { ⌜ search .packed + countOf (facesIn (now table) (now pattern) (now heading)) v ≤ length (now heading) ⌝ }
     ensures { λ r. ⌜ ((cut : ℕ) → NearOf (tableIn (now (table .entry))) cut (now (near .entry)) (now (heading .entry)) → PackedNext (tableIn (now (table .entry))) cut (facesIn (now (table .entry)) (now (pattern .entry)) (now (heading .entry))) v search r (now (spans .entry)) (now (spans .exit)) (now (sets .entry)) (now (sets .exit))) ⌝ }
 {
-    let count = gather(pattern, starts, sizes, v, own_starts, own_sizes);
+    let symbols = symbol_count(table);
+    let count = gather(symbols, pattern, starts, sizes, v, own_starts, own_sizes);
     let positions = own_sizes[0];
     let found = pack_variable(
         table,

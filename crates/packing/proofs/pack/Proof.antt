@@ -12,9 +12,10 @@ use Rattle.meaning.specs.Calls.{zeros, facesIn}
 use Rattle.terms.specs.Kinds.{kindOf}
 use Rattle.terms.specs.declared.kind.Kind.{Kind}
 use Rattle.terms.specs.declared.kind.Kind.the-variants.{Variable}
+use Rattle.terms.proofs.Nodes.{variable-kind}
 use Rattle.packing.proofs.Notes.{covers, near-of, room-kept}
 use Rattle.packing.proofs.Searching.{searched-none}
-use Rattle.packing.proofs.Meeting.{variable-kind, NewAt, PackedAlong, along-all, along-other, along-met, new-at, along-new}
+use Rattle.packing.proofs.Meeting.{NewAt, PackedAlong, along-all, along-other, along-met, new-at, along-new}
 use Rattle.packing.proofs.pack.Statement.{statement}
 use Rattle.packing.proofs.pack.Tie as tie
 

@@ -13,16 +13,19 @@ use Rattle.packing.proofs.Notes.{OwnNotes, short, own-notes, noted-next
 use Rattle.packing.proofs.pack_next.Statement.{statement}
 use Rattle.packing.proofs.pack_next.Tie as tie
 
+symbol-count-requires : tie.Need-symbol-count-requires
+symbol-count-requires c κs = search needs
+
 gather-requires : tie.Need-gather-requires
 gather-requires c κs = search needs
 
 abbrev entry : tie.After-gather → tie.Start
-entry c = c .before .before .before .before .before .before .before .before .before .before .before .before .before
+entry c = c .before .before .before .before .before .before .before .before .before .before .before .before .before .before
 
 -- the notes gathered are of the subterms that face the variable
 own : (c : tie.After-gather)
     → let a = entry c .args in
-    let last = c .gather .last .1 .1 .1 .1 in
+    let last = c .gather .last .1 .1 .1 .1 .1 in
     OwnNotes (a .heading .now) (last .0) (last .1 .0) (c .gather .result) (facing (a .v) (facesIn (a .table .now) (a .pattern .now) (a .heading .now)))
 own c = let p = entry c .pre in own-notes (p .0 .packable) (c .gather .ensures) (p .1 .1 .0 .1) (omega arith) (omega arith)
 
@@ -41,7 +44,7 @@ pack-variable-requires c κs =
 -- what is packed with the variable is within the heading
 fits : (c : tie.After-pack-variable)
     → let took = c .before .before .before .before .before .before .before .before .before in
-    entry took .args .search .packed + getD (took .gather .last .1 .1 .1 .1 .1 .0) 0 0 ≤ 1024
+    entry took .args .search .packed + getD (took .gather .last .1 .1 .1 .1 .1 .1 .0) 0 0 ≤ 1024
 fits c =
     let took = c .before .before .before .before .before .before .before .before .before in
     let p = entry took .pre in
@@ -68,11 +71,11 @@ put-span-requires c κs =
     let p = entry (packed (c .before) .before .before .before .before .before .before .before .before .before) .pre in
     omega (arith, p .1 .0 .of-spans, p .1 .1 .0 .0)
 
-cast-t36 : tie.Need-cast-t36
-cast-t36 c = omega (arith, fits (packed (c .before .before .before .before)))
+cast-t37 : tie.Need-cast-t37
+cast-t37 c = omega (arith, fits (packed (c .before .before .before .before)))
 
-add-t37 : tie.Need-add-t37
-add-t37 c = omega (arith, fits (packed (c .before .before .before .before .before)))
+add-t38 : tie.Need-add-t38
+add-t38 c = omega (arith, fits (packed (c .before .before .before .before .before)))
 
 same-length : tie.Need-same-length
 same-length c = search needs
@@ -104,6 +107,7 @@ pub pack-next-spec : {M : Type 1} → statement M
 pack-next-spec =
     tie.close
     (tie.spec
+    symbol-count-requires
     gather-requires
     slice-read-positions
     pack-variable-requires
@@ -112,8 +116,8 @@ pack-next-spec =
     lesser-requires-3
     cast-put-span
     put-span-requires
-    cast-t36
-    add-t37
+    cast-t37
+    add-t38
     same-length
     same-length-2
     same-length-3

@@ -1,33 +1,37 @@
 -- Each node of the pattern that is the variable adds its note behind those gathered before, and any other adds nothing.
 use borrow.Author.Needs.{needs}
-use mathlib.Core.Path.{_≡_, refl}
-use mathlib.Core.Logic.{⊎-elim}
-use Prim.Native.Nat.{_≤_, _-_}
+use mathlib.Core.Path.{_≡_, refl, sym as inv, _∙_}
+use mathlib.Core.Logic.{inl, inr}
+use Prim.Native.Nat.{ℕ, _+_, _-_, _≤_, _<_}
 use native.Mathlib.Omega.{arith}
-use lib.ListN.{length, length-set}
+use lib.ListN.{length, getD, length-set}
+use Rattle.terms.proofs.Nodes.{variable-kind, kind-variable}
 use Rattle.facing.proofs.Gathering.{Gathering, gathering-start, gathering-same, gathering-other, gathering-end}
 use Rattle.facing.proofs.gather.gather.Statement.{statement}
 use Rattle.facing.proofs.gather.gather.Tie as tie
 
 abbrev Inv-loop : tie.InvT-loop
-Inv-loop pattern starts sizes v to-starts₀ to-sizes₀ variable count₀ i₀ i-end to-starts to-sizes count i =
+Inv-loop symbols pattern starts sizes v to-starts₀ to-sizes₀ count₀ i₀ i-end to-starts to-sizes count i =
     (i ≤ length pattern) × (length to-starts ≡ length to-starts₀) × (length to-sizes ≡ length to-sizes₀) × Gathering pattern starts sizes v to-starts to-sizes count i
 
 abbrev μ-loop : tie.MeasureT-loop
-μ-loop pattern starts sizes v to-starts₀ to-sizes₀ variable count₀ i₀ i-end to-starts to-sizes count i =
+μ-loop symbols pattern starts sizes v to-starts₀ to-sizes₀ count₀ i₀ i-end to-starts to-sizes count i =
     length pattern - i
-
-add-variable : tie.Need-add-variable Inv-loop μ-loop
-add-variable c = search needs
 
 loop-holds : tie.Need-loop-holds Inv-loop μ-loop
 loop-holds c = (omega arith, refl, refl, gathering-start _ _ _ _ _ _)
 
-mul-if1 : tie.Need-mul-if1 Inv-loop μ-loop
-mul-if1 c = search needs
+mul-kind-of : tie.Need-mul-kind-of Inv-loop μ-loop
+mul-kind-of c = search needs
 
-shared-slice-read-if1 : tie.Need-shared-slice-read-if1 Inv-loop μ-loop
-shared-slice-read-if1 c = search needs
+shared-slice-read-kind-of : tie.Need-shared-slice-read-kind-of Inv-loop μ-loop
+shared-slice-read-kind-of c = search needs
+
+kind-of-requires : tie.Need-kind-of-requires Inv-loop μ-loop
+kind-of-requires c κs = search needs
+
+enum-known-here : tie.Need-enum-known-here Inv-loop μ-loop
+enum-known-here c = search needs
 
 mul-to-starts : tie.Need-mul-to-starts Inv-loop μ-loop
 mul-to-starts c = search needs
@@ -62,15 +66,36 @@ add-i c = search needs
 loop-less : tie.Need-loop-less Inv-loop μ-loop
 loop-less c = search needs
 
+-- the node at which a turn stands
+abbrev nodeAt : tie.After-kind-of Inv-loop μ-loop → ℕ
+nodeAt c = getD (c .before .before .before .before .before .before .before .before .before .args .pattern .now) (c .before .before .before .loop .i) 0
+
+-- .. is the variable that the match names
+is-here : (c : tie.After-here Inv-loop μ-loop) → nodeAt (c .before .before) ≡ 32768 + c .here .given .0 .0
+is-here c = variable-kind _ _ _ (inv (c .before .before .kind-of .ensures) ∙ c .here .given .1) .0
+
+-- .. or none
+is-none : (c : tie.At-match-keys2 Inv-loop μ-loop) (v : ℕ) → v < 32 → nodeAt (c .before) ≡ 32768 + v → ⊥
+is-none c v l e =
+    let is = c .before .kind-of .ensures ∙ inv (kind-variable _ _ (omega arith) (omega arith) (omega arith)) in
+    elim (rw is at (c .match .keys2)) [ inl z ↦ omega arith | inr z ↦ omega arith ]
+
 loop-again : tie.Need-loop-again Inv-loop μ-loop
 loop-again c =
-    let at = c .before .before .before .loop in
-    ⊎-elim
-    (λ w.
-    let s = gathering-same _ _ _ _ (at .inv .3) (omega arith) (w .0 .taken) (omega arith) (omega arith) in
-    rw (w .3, w .4, w .5) (omega arith, simp length-set (at .inv .1), simp length-set (at .inv .2), s))
-    (λ w. rw (w .1, w .2, w .3) (omega arith, at .inv .1, at .inv .2, gathering-other _ _ _ _ (at .inv .3) (omega arith) (w .0 .left)))
-    (c .if1 .came)
+    let at = c .before .before .before .before .loop in
+    elim (c .match .came) [
+      | inl w ↦
+          let here = is-here (record { before = record { before = c .before; match = w .0 }; here = w .1 }) in
+          let s = gathering-same _ _ _ _ (at .inv .3) (omega arith) (omega (arith, here, w .3 .taken)) (omega arith) (omega arith) in
+          rw (w .6, w .7, w .8) (omega arith, simp length-set (at .inv .1), simp length-set (at .inv .2), s)
+      | inr (inl w) ↦
+          let here = is-here (record { before = record { before = c .before; match = w .0 }; here = w .1 }) in
+          rw (w .4, w .5, w .6)
+          (omega arith, at .inv .1, at .inv .2, gathering-other _ _ _ _ (at .inv .3) (omega arith) (λ e. w .3 .left (omega (arith, here, e))))
+      | inr (inr w) ↦
+          rw (w .1, w .2, w .3)
+          (omega arith, at .inv .1, at .inv .2, gathering-other _ _ _ _ (at .inv .3) (omega arith) (is-none (record { before = c .before; match = w .0 }) _ (omega arith)))
+    ]
 
 same-length : tie.Need-same-length Inv-loop μ-loop
 same-length c = search needs
@@ -87,10 +112,11 @@ gather-spec =
     (tie.spec
     Inv-loop
     μ-loop
-    add-variable
     loop-holds
-    mul-if1
-    shared-slice-read-if1
+    mul-kind-of
+    shared-slice-read-kind-of
+    kind-of-requires
+    enum-known-here
     mul-to-starts
     shared-slice-read-to-starts
     mul-to-starts-2
