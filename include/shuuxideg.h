@@ -100,7 +100,7 @@ uint32_t shx_symbol_degree(const uint8_t *table, size_t table_len, uint16_t a, u
 uint32_t shx_arity(const uint8_t *table, size_t table_len, uint16_t symbol, uint8_t *arity);
 
 /* Stores the pair at an index of the table's list, counted from 0. Refusals 1 to 4 and 14. */
-uint32_t shx_pair(const uint8_t *table, size_t table_len, uint16_t index, uint16_t *lower, uint16_t *higher, uint16_t *degree);
+uint32_t shx_pair(const uint8_t *table, size_t table_len, size_t index, uint16_t *lower, uint16_t *higher, uint16_t *degree);
 
 /* Stores how near two headings are. Refused by 1 to 4 for the table, by 6 for the first heading, by 7 for the second. */
 uint32_t shx_heading_degree(

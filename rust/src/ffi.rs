@@ -12,7 +12,7 @@ extern "C" {
     pub fn shx_pair(
         table: *const u8,
         table_len: usize,
-        index: u16,
+        index: usize,
         lower: *mut u16,
         higher: *mut u16,
         degree: *mut u16,

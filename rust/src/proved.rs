@@ -33,7 +33,7 @@ pub fn arity(table: &[u8], symbol: u16) -> Answer<u8> {
 }
 
 /// The pair at an index. Refusals 1 to 4 and 14.
-pub fn pair(table: &[u8], index: u16) -> Answer<Pair> {
+pub fn pair(table: &[u8], index: usize) -> Answer<Pair> {
     let mut pair = Pair { lower: 0, higher: 0, degree: 0 };
     accepted(unsafe {
         ffi::shx_pair(table.as_ptr(), table.len(), index, &mut pair.lower, &mut pair.higher, &mut pair.degree)

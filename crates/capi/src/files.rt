@@ -53,14 +53,14 @@ pub extern "C" fn shx_arity(table: &[u8], symbol: u16, arity: &mut u8) -> u32
 #[no_mangle]
 pub extern "C" fn shx_pair(
     table: &[u8],
-    index: u16,
+    index: usize,
     lower: &mut u16,
     higher: &mut u16,
     degree: &mut u16,
 ) -> u32
     ensures { λ r. ⌜ ShxPair (now (table .entry)) index (now (lower .entry)) (now (higher .entry)) (now (degree .entry)) r (now (lower .exit)) (now (higher .exit)) (now (degree .exit)) ⌝ }
 {
-    match pair_of(table, index as usize) {
+    match pair_of(table, index) {
         PairAnswer::Listed(pair) => {
             *lower = pair.lower;
             *higher = pair.higher;

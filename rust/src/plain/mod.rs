@@ -40,8 +40,8 @@ pub fn arity(table: &[u8], symbol: u16) -> Answer<u8> {
 }
 
 /// The pair at an index. Refusals 1 to 4 and 14.
-pub fn pair(table: &[u8], index: u16) -> Answer<Pair> {
-    Table::read(table)?.pair(usize::from(index)).map_or_else(|| refuse(14, 0), Ok)
+pub fn pair(table: &[u8], index: usize) -> Answer<Pair> {
+    Table::read(table)?.pair(index).map_or_else(|| refuse(14, 0), Ok)
 }
 
 /// How near two headings are. Refuses the table by 1 to 4, the first heading by 6, the second by 7.

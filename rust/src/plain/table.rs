@@ -117,7 +117,7 @@ impl<'a> Table<'a> {
     }
 
     pub fn pair(&self, index: usize) -> Option<Pair> {
-        self.pairs.get(PAIR * index..PAIR * (index + 1)).map(pair_of)
+        self.pairs.chunks_exact(PAIR).nth(index).map(pair_of)
     }
 
     #[inline]

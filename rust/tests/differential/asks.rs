@@ -50,7 +50,7 @@ impl Asker {
         self.same(&ours, &plain, &("arity", symbol));
     }
 
-    pub fn pair(&mut self, index: u16) {
+    pub fn pair(&mut self, index: usize) {
         let (ours, plain) = (proved::pair(self.table.part(), index), plain::pair(self.table.part(), index));
         self.same(&ours, &plain, &("pair", index));
     }

@@ -35,7 +35,7 @@ fn answers_through_pointers() {
 }
 
 fn numbers(draw: &mut Draw, file: &[u8]) {
-    let (a, b, index) = (draw.below(9) as u16, draw.below(9) as u16, draw.below(9) as u16);
+    let (a, b, index) = (draw.below(9) as u16, draw.below(9) as u16, draw.below(9) + draw.one(&[0, 0, 1 << 16]));
     let mut degree = BEFORE;
     let ours = unsafe { ffi::shx_symbol_degree(file.as_ptr(), file.len(), a, b, &mut degree) };
     let plain = plain::symbol_degree(file, a, b);

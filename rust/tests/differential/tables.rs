@@ -2,6 +2,7 @@
 
 use crate::asks::{told, Asker};
 use crate::draw::{damaged_file, damaged_pairs, file_of, Draw, Drawn};
+use shuuxideg::{proved, Refusal};
 
 /// All that can be asked of a table alone, for numbers in it and beside it.
 fn ask_all(draw: &mut Draw, file: &[u8], symbols: usize, pairs: usize) -> usize {
@@ -13,12 +14,12 @@ fn ask_all(draw: &mut Draw, file: &[u8], symbols: usize, pairs: usize) -> usize 
         asker.symbol_degree(b, a);
         asker.symbol_degree(a, draw.node());
         asker.arity(a);
-        asker.pair(draw.below(pairs + 2) as u16);
+        asker.pair(draw.below(pairs + 2));
     }
     let node = draw.node();
     asker.symbol_degree(node, node);
     asker.arity(node);
-    asker.pair(node);
+    asker.pair(usize::from(node));
     asker.asked
 }
 
@@ -61,11 +62,26 @@ fn every_pair_of_symbols() {
             }
         }
         for index in 0..table.pairs.len() + 2 {
-            asker.pair(index as u16);
+            asker.pair(index);
         }
         asked += asker.asked;
     }
     told("tables, every pair of symbols", asked, 700);
+}
+
+/// An index is as wide as a length: also where its low 16 bits are those of a pair's, there is no such pair.
+#[test]
+fn indices_above_16_bits() {
+    let file = Drawn::t().file();
+    let mut asker = Asker::new(&file);
+    for high in [1 << 16, 2 << 16, 1 << 32, usize::MAX << 16] {
+        for low in 0..8 {
+            asker.pair(high + low);
+            assert_eq!(proved::pair(&file, high + low), Err(Refusal { number: 14, place: 0 }));
+        }
+    }
+    asker.pair(usize::MAX);
+    told("tables, indices above 16 bits", asker.asked, 33);
 }
 
 #[test]
