@@ -3,6 +3,7 @@
 -- a program that keeps its promises meets every statement
 pub mod Meant
 pub mod Demand1
+pub mod Drawn
 pub mod Demands
 pub mod Paired
 pub mod Handed

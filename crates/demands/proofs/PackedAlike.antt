@@ -11,14 +11,11 @@ use Rattle.theory.specs.Table.{Table}
 use Rattle.meaning.specs.Limits.{variableCount, spanWidth}
 use Rattle.meaning.specs.Packing.{firsts, startIn}
 use Rattle.meaning.specs.Calls.{Matched}
-use Rattle.meaning.specs.Buffers.{firstPosition, positionCount, DrawnFrom}
+use Rattle.meaning.specs.Buffers.{firstPosition, positionCount}
 use Rattle.meaning.specs.Matching.{standing, PackedInOrder}
+use Rattle.demands.specs.Demand3.{DrawnBy}
 
--- the substitution is drawn from the result's buffers
-abbrev pub Gives : Table → Pattern → Matched → (ℕ → Term) → Type 0
-Gives T p r σ = (v : ℕ) → stands v p ≡ true → DrawnFrom T (r .spans) (r .sets) v (σ v)
-
-module _ (T R : Table) (p : Pattern) (r s : Matched) (σ : ℕ → Term) (gr : Gives T p r σ) (gs : Gives R p s σ) (pr : PackedInOrder p r) (ps : PackedInOrder p s)
+module _ (T R : Table) (p : Pattern) (r s : Matched) (σ : ℕ → Term) (gr : DrawnBy T p r σ) (gs : DrawnBy R p s σ) (pr : PackedInOrder p r) (ps : PackedInOrder p s)
     (past : (i : ℕ) → spanWidth * variableCount ≤ i → getD (r .spans) i 0 ≡ getD (s .spans) i 0) where
   -- LAW
   pub counts-alike : (v : ℕ) → positionCount (r .spans) v ≡ positionCount (s .spans) v

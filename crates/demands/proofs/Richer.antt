@@ -21,10 +21,11 @@ use Rattle.meaning.specs.Matching.{InSpan}
 use Rattle.meaning.proofs.Matched.{ready}
 use Rattle.meaning.proofs.Again.{accepted-again}
 use Rattle.meaning.proofs.Wrong.{found-all, found-given}
+use Rattle.demands.specs.Demand3.{DrawnBy}
 use Rattle.demands.specs.Further.{MatchSays}
 use Rattle.demands.specs.Richer.{MatchersStay, StillAnswers, LosesNothing}
 use Rattle.demands.proofs.Stated.{Stated, answered-accepted}
-use Rattle.demands.proofs.PackedAlike.{Gives, counts-alike, starts-alike}
+use Rattle.demands.proofs.PackedAlike.{counts-alike, starts-alike}
 
 module _ (table₁ table₂ pattern heading : List ℕ) (cut : ℕ) (spans₁ sets₁ spans₂ sets₂ : List ℕ) (r₁ r₂ : Matched) (more : Richer (tableIn table₁) (tableIn table₂))
     (x₁ : Stated table₁ pattern heading cut spans₁ sets₁ r₁) (x₂ : Stated table₂ pattern heading cut spans₂ sets₂ r₂)
@@ -89,10 +90,10 @@ module _ (table₁ table₂ pattern heading : List ℕ) (cut : ℕ) (spans₁ se
     f₂ : Found R cut p h r₂
     f₂ = found-all R cut p h r₂ decides₂ σ (stay σ (f₁ .is-lowest .reached .1) .0)
 
-    drawn : (τ : ℕ → Term) → Gives T p r₁ τ → Gives R p r₂ τ
+    drawn : (τ : ℕ → Term) → DrawnBy T p r₁ τ → DrawnBy R p r₂ τ
     drawn τ g = f₂ .matchers τ .0 (stay τ (f₁ .matchers τ .1 g) .0)
 
-    given : Gives T p r₁ σ
+    given : DrawnBy T p r₁ σ
     given = f₁ .matchers σ .0 (f₁ .is-lowest .reached .1)
 
     past : (i : ℕ) → spanWidth * variableCount ≤ i → getD (r₁ .spans) i 0 ≡ getD (r₂ .spans) i 0

@@ -28,10 +28,11 @@ use Rattle.meaning.specs.Demands.{Accepted, Found}
 use Rattle.meaning.specs.Matching.{InSpan, Leaves}
 use Rattle.meaning.proofs.First.{append-none}
 use Rattle.meaning.proofs.Wrong.{aligned, found-given}
+use Rattle.demands.specs.Demand3.{DrawnBy}
 use Rattle.demands.specs.Further.{MatchSays}
 use Rattle.demands.proofs.Settled.{by-refusal, by-none, find}
 use Rattle.demands.proofs.Stated.{Stated}
-use Rattle.demands.proofs.PackedAlike.{Gives, counts-alike, starts-alike}
+use Rattle.demands.proofs.PackedAlike.{counts-alike, starts-alike}
 
 -- ---- two answers to one question
 
@@ -60,10 +61,10 @@ module _ (T : Table) (cut : ℕ) (p : Pattern) (h : Term) (pattern spans sets : 
   abbrev σ : ℕ → Term
   σ = fr .is-lowest .reached .0
 
-  in-r : Gives T p r σ
+  in-r : DrawnBy T p r σ
   in-r = fr .matchers σ .0 (fr .is-lowest .reached .1)
 
-  in-s : Gives T p s σ
+  in-s : DrawnBy T p s σ
   in-s = fs .matchers σ .0 (fr .is-lowest .reached .1)
 
   counts : (v : ℕ) → positionCount (r .spans) v ≡ positionCount (s .spans) v

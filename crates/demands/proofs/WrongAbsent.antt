@@ -31,6 +31,7 @@ use Rattle.demands.specs.Demand2.{Demand2}
 use Rattle.demands.specs.Demand3.{Demand3}
 use Rattle.demands.specs.Further.{Further}
 use Rattle.demands.proofs.Meant.{Handing, withMatch}
+use Rattle.demands.proofs.Drawn.{by-cuts}
 use Rattle.demands.proofs.Demands.{demand2, demand3}
 use Rattle.demands.proofs.Instances.{met2}
 use Rattle.demands.proofs.Lent.{noSpans, noSets}
@@ -147,9 +148,8 @@ narrower-spoiled t p h c sp se c′ sp′ se′ l g e n =
         spoiled-alike (matchCall t p h c′ sp′ se′ .spans) (matchCall t p h c sp se .spans) (long t p h c′ sp′ se′ _ e) (long t p h c sp se _ (n .first-answers)) i q _ _
         (degrees l g) (degrees (n .low₁) (n .high₁)) (stands 31 (patternOf (tableIn t) p)) e (n .first-answers)
 
--- THEOREM: demands 2 and 3 allow it
-pub absent-meets : (H : Handing) → Demand2 (withMatch H absent) × Demand3 (withMatch H absent)
-absent-meets H = (record { degree = demand2 H .degree; match = of-match }, record { cuts = of-cuts })
+absent-two : (H : Handing) → Demand2 (withMatch H absent)
+absent-two H = record { degree = demand2 H .degree; match = of-match }
   where
     of-match : (t p h : List ℕ) (c : ℕ) (sp se : List ℕ) → Accepted t p h c sp se → MatchOf t p h c (absent t p h c sp se)
     of-match t p h c sp se a =
@@ -163,6 +163,10 @@ absent-meets H = (record { degree = demand2 H .degree; match = of-match }, recor
           decides = rw e (decides-spoiled (tableIn t) c (d .p) (d .h) (matchCall t p h c sp se) (d .decides));
         }
 
+-- THEOREM: demands 2 and 3 allow it
+pub absent-meets : (H : Handing) → Demand2 (withMatch H absent) × Demand3 (withMatch H absent)
+absent-meets H = (absent-two H, by-cuts (withMatch H absent) (absent-two H) of-cuts)
+  where
     of-cuts : (t p h : List ℕ) (c : ℕ) (sp se : List ℕ) (c′ : ℕ) (sp′ se′ : List ℕ) → c ≤ c′ → Accepted t p h c sp se → Accepted t p h c′ sp′ se′
         → CutsOf t p h c (absent t p h c sp se) c′ (absent t p h c′ sp′ se′)
     of-cuts t p h c sp se c′ sp′ se′ up a a′ =

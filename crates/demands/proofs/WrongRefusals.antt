@@ -21,6 +21,7 @@ use Rattle.demands.specs.Demand1.{Demand1}
 use Rattle.demands.specs.Demand2.{Demand2}
 use Rattle.demands.specs.Demand3.{Demand3}
 use Rattle.demands.proofs.Meant.{Handing, withMatch}
+use Rattle.demands.proofs.Drawn.{by-cuts}
 use Rattle.demands.proofs.Demands.{demand2, demand3}
 use Rattle.demands.proofs.Wrong.{not-both}
 
@@ -56,18 +57,21 @@ lax table pattern heading cut spans sets = laxly (first (inputRows table pattern
 as-it-was : (o : Option Refusal) (r : Matched) → o ≡ none → r ≡ laxly o r
 as-it-was o r e = rw e
 
+lax-two : (H : Handing) → Demand2 (withMatch H lax)
+lax-two H =
+    record {
+      degree = demand2 H .degree;
+      match = λ t p h c sp se a. subst (MatchOf t p h c) (as-it-was _ _ a) (demand2 H .match t p h c sp se a);
+    }
+
 -- THEOREM: demands 2 and 3 allow it
 pub lax-meets : (H : Handing) → Demand2 (withMatch H lax) × Demand3 (withMatch H lax)
 lax-meets H = (
-  record {
-    degree = demand2 H .degree;
-    match = λ t p h c sp se a. subst (MatchOf t p h c) (as-it-was _ _ a) (demand2 H .match t p h c sp se a);
-  },
-  record {
-    cuts = λ t p h c sp se c′ sp′ se′ up a a′.
-        subst (λ r. CutsOf t p h c r c′ (lax t p h c′ sp′ se′)) (as-it-was _ _ a)
-        (subst (λ r. CutsOf t p h c (matchCall t p h c sp se) c′ r) (as-it-was _ _ a′) (demand3 H .cuts t p h c sp se c′ sp′ se′ up a a′));
-  },
+  lax-two H,
+  by-cuts (withMatch H lax) (lax-two H)
+      (λ t p h c sp se c′ sp′ se′ up a a′.
+      subst (λ r. CutsOf t p h c r c′ (lax t p h c′ sp′ se′)) (as-it-was _ _ a)
+      (subst (λ r. CutsOf t p h c (matchCall t p h c sp se) c′ r) (as-it-was _ _ a′) (demand3 H .cuts t p h c sp se c′ sp′ se′ up a a′))),
 )
 
 -- THEOREM: demand 1 does not
@@ -145,25 +149,28 @@ cuts-muddled T p h c r c′ s d =
 abbrev pub muddling : (table pattern heading : List ℕ) (cut : ℕ) (spans sets : List ℕ) → Matched
 muddling table pattern heading cut spans sets = muddled (matchCall table pattern heading cut spans sets)
 
+match-muddled : (t p h : List ℕ) (c : ℕ) (r : Matched) → MatchOf t p h c r → MatchOf t p h c (muddled r)
+match-muddled t p h c r d =
+    record { p = d .p; h = d .h; writes-pattern = d .writes-pattern; writes-heading = d .writes-heading; decides = decides-muddled (tableIn t) c (d .p) (d .h) r (d .decides) }
+
+both-muddled : (t p h : List ℕ) (c : ℕ) (r : Matched) (c′ : ℕ) (s : Matched) → CutsOf t p h c r c′ s → CutsOf t p h c (muddled r) c′ (muddled s)
+both-muddled t p h c r c′ s d =
+    record { p = d .p; h = d .h; writes-pattern = d .writes-pattern; writes-heading = d .writes-heading; two-cuts = cuts-muddled (tableIn t) (d .p) (d .h) c r c′ s (d .two-cuts) }
+
+muddling-two : (H : Handing) → Demand2 (withMatch H muddling)
+muddling-two H =
+    record {
+      degree = demand2 H .degree;
+      match = λ t p h c sp se a. match-muddled t p h c (matchCall t p h c sp se) (demand2 H .match t p h c sp se a);
+    }
+
 -- THEOREM: demands 2 and 3 allow it
 pub muddling-meets : (H : Handing) → Demand2 (withMatch H muddling) × Demand3 (withMatch H muddling)
 muddling-meets H = (
-  record {
-    degree = demand2 H .degree;
-    match = λ t p h c sp se a. of-match t p h c (matchCall t p h c sp se) (demand2 H .match t p h c sp se a);
-  },
-  record {
-    cuts = λ t p h c sp se c′ sp′ se′ up a a′. of-cuts t p h c (matchCall t p h c sp se) c′ (matchCall t p h c′ sp′ se′) (demand3 H .cuts t p h c sp se c′ sp′ se′ up a a′);
-  },
+  muddling-two H,
+  by-cuts (withMatch H muddling) (muddling-two H)
+      (λ t p h c sp se c′ sp′ se′ up a a′. both-muddled t p h c (matchCall t p h c sp se) c′ (matchCall t p h c′ sp′ se′) (demand3 H .cuts t p h c sp se c′ sp′ se′ up a a′)),
 )
-  where
-    of-match : (t p h : List ℕ) (c : ℕ) (r : Matched) → MatchOf t p h c r → MatchOf t p h c (muddled r)
-    of-match t p h c r d =
-        record { p = d .p; h = d .h; writes-pattern = d .writes-pattern; writes-heading = d .writes-heading; decides = decides-muddled (tableIn t) c (d .p) (d .h) r (d .decides) }
-
-    of-cuts : (t p h : List ℕ) (c : ℕ) (r : Matched) (c′ : ℕ) (s : Matched) → CutsOf t p h c r c′ s → CutsOf t p h c (muddled r) c′ (muddled s)
-    of-cuts t p h c r c′ s d =
-        record { p = d .p; h = d .h; writes-pattern = d .writes-pattern; writes-heading = d .writes-heading; two-cuts = cuts-muddled (tableIn t) (d .p) (d .h) c r c′ s (d .two-cuts) }
 
 -- THEOREM: demand 1 does not
 pub muddling-fails : (P : Program)

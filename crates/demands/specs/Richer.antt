@@ -4,14 +4,15 @@ use mathlib.Core.Path.{_≡_}
 use mathlib.Core.List.{List}
 use mathlib.Core.Bool.{true}
 use Prim.Native.Nat.{ℕ, _≤_, _<_}
-use Rattle.theory.specs.Tree.{Term, Pattern, fill, stands}
+use Rattle.theory.specs.Tree.{Term, Pattern, fill}
 use Rattle.theory.specs.Table.{Table, degree, Matcher}
 use Rattle.meaning.specs.Limits.{setRoom, variableCount}
 use Rattle.meaning.specs.File.{tableIn}
 use Rattle.meaning.specs.Calls.{gives, Degrees, highestIn, Matched}
-use Rattle.meaning.specs.Buffers.{firstPosition, positionCount, ownHighest, holds, DrawnFrom}
+use Rattle.meaning.specs.Buffers.{firstPosition, positionCount, ownHighest, holds}
 use Rattle.meaning.specs.Demands.{WritesTerm, WritesPattern, Only}
 use Rattle.meaning.specs.Matching.{InSpan}
+use Rattle.demands.specs.Demand3.{DrawnBy}
 
 -- Every matcher under T is one under R, with a degree that is not lower.
 abbrev pub MatchersStay : Table → Table → ℕ → Pattern → Term → Type 0
@@ -28,8 +29,7 @@ pub record StillAnswers (T R : Table) (p : Pattern) (r₁ r₂ : Matched) : Type
   pub own-highest-not-lower : (v : ℕ) → v < variableCount → ownHighest (r₁ .spans) v ≤ ownHighest (r₂ .spans) v
   pub no-symbol-lost : (v : ℕ) → v < variableCount → (position : ℕ) → InSpan (r₁ .spans) v position → (symbol : ℕ) → symbol < setRoom
       → holds (r₁ .sets) position symbol ≡ true → holds (r₂ .sets) position symbol ≡ true
-  pub drawn : (σ : ℕ → Term) → ((v : ℕ) → stands v p ≡ true → DrawnFrom T (r₁ .spans) (r₁ .sets) v (σ v))
-      → (v : ℕ) → stands v p ≡ true → DrawnFrom R (r₂ .spans) (r₂ .sets) v (σ v)
+  pub drawn : (σ : ℕ → Term) → DrawnBy T p r₁ σ → DrawnBy R p r₂ σ
 
 -- What is said of two such calls of which neither is refused for its input or its room: the lists write the same trees over both tables.
 pub record LosesNothing (table₁ table₂ pattern heading : List ℕ) (cut : ℕ) (r₁ r₂ : Matched) : Type 0 where
