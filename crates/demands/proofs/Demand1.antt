@@ -11,10 +11,10 @@ use lib.ListN.{length}
 use denote.Ref.{now}
 use Rattle.theory.specs.Tree.{Term, node, Pattern, var, sym, enc, encₚ}
 use Rattle.meaning.specs.Refusals.{Refusal, refusal, first}
-use Rattle.meaning.specs.Calls.{Answer, refused, isTable, symbolDegree, headingDegree, part, subtermRows, subterm, Nearer as Which, theFirst, theSecond, neither, nearerRows, nearer, Degrees, lowestIn, highestIn, matched, written, arityBack, pairBack}
+use Rattle.meaning.specs.Calls.{isTable, symbolDegree, headingDegree, part, subtermRows, subterm, Nearer as Which, theFirst, theSecond, neither, nearerRows, nearer, matched, written, arityBack, pairBack}
 use Rattle.meaning.specs.Saved.{widenedCount}
 use Rattle.meaning.specs.Parts.{SubtermIs, NearerIs}
-use Rattle.meaning.proofs.First.{first-given, given-first, exactly, order}
+use Rattle.meaning.proofs.First.{first-given, given-first, exactly}
 use Rattle.meaning.proofs.Parts.{subterms, nearest}
 use Rattle.meaning.proofs.Lengths.{leaves, lengths}
 use Rattle.meaning.proofs.RoundTrip.{round-trip}
@@ -83,11 +83,6 @@ module _ (table heading : List ℕ) (one two r : Nodes) (k : Nearer table headin
       go (just (refusal n place)) q x = (n, place, first-given (nearerRows table heading (now one) (now two)) n place q)
       go none q x = absurd (not-empty-one (nearest .found table heading (now one) (now two) q) (nearer table heading (now one) (now two)) (none-refused q) k x)
 
--- ---- a refused match
-
-no-degrees : (a : Answer Degrees) (n place : ℕ) → a ≡ refused n place → (lowestIn a ≡ 0) × (highestIn a ≡ 0)
-no-degrees a n place e = (ap lowestIn e, ap highestIn e)
-
 -- THEOREM
 pub demand1 : (H : Handing) → HandsBack H → Demand1 (meant H)
 unfolding isTable symbolDegree headingDegree matched written arityBack pairBack widenedCount
@@ -103,8 +98,6 @@ demand1 H k =
       widen = λ words output. exactly _ _;
       subterm = λ table term i. empty-part table term i _ (k .subterm table term i);
       nearer = λ table heading one two. empty-choice table heading one two _ (k .nearer table heading one two);
-      order = order;
-      no-degrees = λ table pattern heading cut spans sets. no-degrees _;
       match-leaves = leaves;
       writer-leaves = λ arities pairs output. round-trip .read-written arities pairs output .refusal-leaves;
       widen-leaves = λ words output. widens words output .refusal-leaves;

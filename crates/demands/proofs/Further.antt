@@ -20,7 +20,6 @@ use Rattle.meaning.proofs.Back.{reads-back}
 use Rattle.meaning.proofs.RoundTrip.{round-trip}
 use Rattle.meaning.proofs.Saved.{widens}
 use Rattle.meaning.proofs.AsToday.{as-today}
-use Rattle.meaning.proofs.Parts.{terms}
 use Rattle.meaning.proofs.Matched.{Ready, ready, demand2 as of-match}
 use Rattle.meaning.proofs.Reasons.{reasons}
 use Rattle.meaning.proofs.Sentences.{sentences}
@@ -36,6 +35,7 @@ use Rattle.demands.proofs.Handed.{handed-back}
 use Rattle.demands.proofs.Stated.{Stated, stated}
 use Rattle.demands.proofs.Richer.{loses-nothing, stays-answered}
 use Rattle.demands.proofs.NamedAlone.{named-alone}
+use Rattle.demands.proofs.NoTerm.{refuses-no-terms}
 
 is-table : (file : List ℕ) → isTable file ≡ gives aye ↔ TableFile file
 unfolding isTable
@@ -90,7 +90,7 @@ further H k =
       named-there-alone = named-alone (meant H) (demand1 H k);
       reads-back = reads-back;
       round-trip = round-trip;
-      terms = terms;
+      terms = refuses-no-terms (meant H) (demand1 H k);
       paired = lowest-paired;
       same-heading = same-heading;
       handed-back = handed-back H k;

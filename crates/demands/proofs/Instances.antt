@@ -96,6 +96,14 @@ unfolding
     headingDegree degreeRows subtermRows nearerRows tableRows row1-short row1-offsets row2 row3 row4 row6 row7 tableIn aritiesIn pairsIn patternOf termOf parse parseRow walk several degree
 met-headings = (refl, refl, refl, lit< tt, refl, refl, refl)
 
+-- .. and lists that are no terms of a table that is accepted: a variable in the first heading, an argument that is missing in the second
+pub met-no-terms : (isTable T ≡ gives aye) × (headingDegree T (32768 ∷ []) (5 ∷ []) ≡ refused 6 0) × (headingDegree T (5 ∷ []) (1 ∷ []) ≡ refused 7 1)
+    × (matched T (1 ∷ []) h 600 noSpans (noSets 5) ≡ refused 6 1) × (matched T p (32768 ∷ []) 600 noSpans (noSets 5) ≡ refused 7 0)
+unfolding
+    isTable headingDegree degreeRows matched matchRows inputRows searchRows facesIn packedCount tableRows row1-short row1-offsets row2 row3 row4 row5 row6 row7 row8 row9 row10 tableIn aritiesIn pairsIn
+    patternOf termOf parse parseRow walk several
+met-no-terms = (refl, refl, refl, refl, refl)
+
 -- Further, the match: the trees that the two lists write, a variable that stands in the pattern and one that does not; and a clash
 pub met-match : WritesPattern (tableIn T) p P × WritesTerm (tableIn T) h H × (stands 0 P ≡ true) × (stands 31 P ≡ false) × (31 < variableCount)
     × (matched T (1 ∷ 32768 ∷ []) (2 ∷ 6 ∷ []) 501 noSpans (noSets 2) ≡ refused 9 0)

@@ -1,6 +1,7 @@
 -- What is proved of the statements in specs/, in an order in which it can be read. Each file begins with the reason why what it proves is so.
 --
 -- a program that keeps its promises meets every statement
+pub mod Exact
 pub mod Meant
 pub mod Demand1
 pub mod Drawn
@@ -8,6 +9,7 @@ pub mod Demands
 pub mod Paired
 pub mod Handed
 pub mod NamedAlone
+pub mod NoTerm
 pub mod Stated
 pub mod PackedAlike
 pub mod Richer
@@ -24,6 +26,7 @@ pub mod Instances
 -- wrong programs, and the statement at which each fails
 pub mod Wrong
 pub mod WrongRefusals
+pub mod WrongHanded
 pub mod WrongAbsent
 pub mod WrongPlaces
 pub mod WrongOwn

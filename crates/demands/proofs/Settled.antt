@@ -4,7 +4,7 @@ use mathlib.Core.Path.{_≡_, refl, sym as inv, ap, ap₂, _∙_, subst}
 use mathlib.Core.Logic.{_⊎_, inl, inr}
 use mathlib.Core.List.{List, [], _∷_}
 use mathlib.Core.Bool.{Bool, true, false, _&&_, cond}
-use mathlib.Core.Option.{Option, none, some as just, Option·some-ne-none, Option·some-injective}
+use mathlib.Core.Option.{Option, none, some as just, Option·some-injective}
 use Prim.Native.Nat.{ℕ, zero, suc, _≤_, _<_}
 use native.Mathlib.Nat.{not-suc-le-zero}
 use native.Mathlib.Decide.{decLt, ℕ-discrete}
@@ -19,12 +19,11 @@ use Rattle.theory.specs.Pairs.{Pair, pair, isPair}
 use Rattle.theory.proofs.Lemmas.{and-left, and-right, last-or-below}
 use Rattle.theory.proofs.Verdict.{or-cases}
 use Rattle.meaning.specs.File.{symbolCount, pairCount, pairsIn, tableIn}
-use Rattle.meaning.specs.Refusals.{Refusal, refusal, Row, first, row13, tableRows}
-use Rattle.meaning.specs.Calls.{Answer, refused, gives, Yes, aye, symbolRows, degreeRows, headingDegree, part, subtermRows, subterm, theFirst, theSecond, nearerRows, nearer}
-use Rattle.meaning.specs.Demands.{Exactly}
+use Rattle.meaning.specs.Refusals.{Refusal, refusal, first, row13, tableRows}
+use Rattle.meaning.specs.Calls.{Answer, gives, Yes, aye, symbolRows, degreeRows, headingDegree, part, subtermRows, subterm, theFirst, theSecond, nearerRows, nearer}
 use Rattle.meaning.specs.Tables.{SymbolDegrees}
 use Rattle.meaning.specs.Parts.{SubtermIs}
-use Rattle.meaning.proofs.First.{first-given, given-first, append-none}
+use Rattle.meaning.proofs.First.{first-given, append-none}
 use Rattle.meaning.proofs.Parts.{subterms, nearest}
 use Rattle.headings.specs.Terms.{Nodes, PartOf, IsPart, Subterm, IsChosen, Nearer}
 use Rattle.demands.specs.Program.{Program}
@@ -32,24 +31,8 @@ use Rattle.demands.specs.Handed.{EmptyAt, HandedBack}
 use Rattle.demands.specs.Demand1.{Refuses, Demand1}
 use Rattle.demands.specs.Demand2.{Demand2}
 use Rattle.demands.specs.Further.{Further}
+use Rattle.demands.proofs.Exact.{by-none, same-answer}
 use Rattle.demands.proofs.Paired.{chosen, both-given}
-
--- ---- two answers that are refused exactly by the same rows
-
-module _ {A : Type 0} (rows : List Row) (a : Answer A) (e : Exactly rows a) where
-  pub by-refusal : (n place : ℕ) → first rows ≡ just (refusal n place) → a ≡ refused n place
-  by-refusal n place q = e .given n place .1 (first-given rows n place q)
-
-  pub by-none : first rows ≡ none → (x : A) × (a ≡ gives x)
-  by-none q = e .otherwise (λ n place g. Option·some-ne-none (refusal n place) (inv (given-first rows n place g) ∙ q))
-
--- LAW: they are equal if they are where no row refuses
-pub same-answer : {A : Type 0} (rows : List Row) (a b : Answer A) → Exactly rows a → Exactly rows b → (first rows ≡ none → a ≡ b) → a ≡ b
-same-answer rows a b e f k = go (first rows) refl
-  where
-    go : (o : Option Refusal) → first rows ≡ o → a ≡ b
-    go none q = k q
-    go (just (refusal n place)) q = by-refusal rows a e n place q ∙ inv (by-refusal rows b f n place q)
 
 -- some number below n passes a test, or none does
 pub find : (n : ℕ) (b : ℕ → Bool) → ((k : ℕ) × (k < n) × (b k ≡ true)) ⊎ ((k : ℕ) → k < n → b k ≡ false)

@@ -19,7 +19,7 @@ use Rattle.meaning.proofs.Writing.{write-back}
 use Rattle.demands.specs.Program.{Program}
 use Rattle.demands.specs.Demand1.{Demand1}
 use Rattle.demands.specs.Further.{Further}
-use Rattle.demands.proofs.Settled.{by-refusal, by-none, same-answer}
+use Rattle.demands.proofs.Exact.{by-refusal, by-none, same-answer}
 
 -- ---- reading back
 

@@ -30,7 +30,8 @@ use Rattle.meaning.proofs.First.{append-none}
 use Rattle.meaning.proofs.Wrong.{aligned, found-given}
 use Rattle.demands.specs.Demand3.{DrawnBy}
 use Rattle.demands.specs.Further.{MatchSays}
-use Rattle.demands.proofs.Settled.{by-refusal, by-none, find}
+use Rattle.demands.proofs.Exact.{by-refusal, by-none}
+use Rattle.demands.proofs.Settled.{find}
 use Rattle.demands.proofs.Stated.{Stated}
 use Rattle.demands.proofs.PackedAlike.{counts-alike, starts-alike}
 

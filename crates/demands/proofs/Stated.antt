@@ -1,22 +1,20 @@
 -- What is stated of one match, gathered from the demands and from what else is said of it. An answered one was not refused for its input or its room, as
 -- it is refused exactly by its rows.
-use mathlib.Core.Path.{_≡_, refl}
+use mathlib.Core.Path.{_≡_}
 use mathlib.Core.List.{List}
-use mathlib.Core.Option.{Option, none, some as just}
 use Prim.Native.Nat.{ℕ}
-use native.Mathlib.Omega.{arith}
 use lib.ListN.{length}
 use Rattle.theory.specs.Tree.{Term, Pattern}
 use Rattle.meaning.specs.File.{tableIn}
-use Rattle.meaning.specs.Refusals.{Refusal, refusal, first}
-use Rattle.meaning.specs.Calls.{refused, gives, Degrees, Matched, inputRows, searchRows, matchRows}
+use Rattle.meaning.specs.Calls.{gives, Degrees, Matched, inputRows, searchRows, matchRows}
 use Rattle.meaning.specs.Demands.{Exactly, WritesTerm, WritesPattern, Accepted, Demand2 as MatchOf}
 use Rattle.meaning.specs.Matching.{Leaves}
-use Rattle.meaning.proofs.First.{first-given, append-none}
+use Rattle.meaning.proofs.First.{append-none}
 use Rattle.demands.specs.Program.{Program}
 use Rattle.demands.specs.Demand1.{Demand1}
 use Rattle.demands.specs.Demand2.{Demand2}
 use Rattle.demands.specs.Further.{MatchSays}
+use Rattle.demands.proofs.Exact.{of-answer}
 
 pub record Stated (table pattern heading : List ℕ) (cut : ℕ) (spans sets : List ℕ) (r : Matched) : Type 0 where
   pub exactly : Exactly (matchRows table pattern heading cut spans sets) (r .answer)
@@ -46,11 +44,6 @@ module _ (table pattern heading : List ℕ) (cut : ℕ) (spans sets : List ℕ) 
   -- LAW
   pub answered-accepted : (d : Degrees) → r .answer ≡ gives d → Accepted table pattern heading cut spans sets
   unfolding matchRows
-  answered-accepted d e = go (first (matchRows table pattern heading cut spans sets)) refl
-    where
-      go : (o : Option Refusal) → first (matchRows table pattern heading cut spans sets) ≡ o → Accepted table pattern heading cut spans sets
-      go none q = append-none (inputRows table pattern heading cut spans sets) (searchRows table pattern heading cut) q .0
-      go (just (refusal n place)) q =
-          let f : r .answer ≡ refused n place = x .exactly .given n place .1 (first-given (matchRows table pattern heading cut spans sets) n place q) in
-          let z : _≡_ {A = ℕ} 0 1 = cc in
-          absurd (omega arith)
+  answered-accepted d e =
+      append-none (inputRows table pattern heading cut spans sets) (searchRows table pattern heading cut)
+      (of-answer (matchRows table pattern heading cut spans sets) (r .answer) (x .exactly) d e) .0

@@ -3,7 +3,6 @@
 use mathlib.Core.Path.{_≡_, refl}
 use mathlib.Core.List.{List, [], _∷_, _++_}
 use Prim.Native.Nat.{ℕ}
-use native.Mathlib.Omega.{arith}
 use Rattle.theory.specs.Pairs.{Pair}
 use Rattle.theory.specs.Read.{walk, several}
 use Rattle.meaning.specs.File.{aritiesIn, pairsIn, tableIn}
@@ -16,10 +15,6 @@ use Rattle.demands.specs.Program.{Program}
 use Rattle.demands.specs.Demand2.{Demand2}
 use Rattle.demands.specs.Further.{Further}
 use Rattle.demands.proofs.Lent.{noSpans, noSets, image}
-
--- an answer is no refusal
-pub not-both : {A : Type 0} (x : A) (n place : ℕ) → gives x ≡ refused n place → ⊥
-not-both x n place e = let z : _≡_ {A = ℕ} 0 1 = cc in omega arith
 
 module _ (P : Program) where
   -- what the program gives to the listing's question at a cut

@@ -23,7 +23,7 @@ use Rattle.demands.specs.Demand3.{Demand3}
 use Rattle.demands.proofs.Meant.{Handing, withMatch}
 use Rattle.demands.proofs.Drawn.{by-cuts}
 use Rattle.demands.proofs.Demands.{demand2, demand3}
-use Rattle.demands.proofs.Wrong.{not-both}
+use Rattle.demands.proofs.Exact.{not-both}
 
 -- ---- what demand 1 says of a call that is refused for its input or its room
 

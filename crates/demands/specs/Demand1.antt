@@ -1,6 +1,8 @@
--- Demand 1: for everything that can be lent, each call is refused exactly by the first of its rows that holds, at that row's place; a refused match
--- returns no degrees, and what is left in lent memory is fixed (`Leaves`: both buffers as they were by 1 to 8, zeros by 9 and 10, and zeros
--- wherever an answered match packs nothing).
+-- Demand 1: for everything that can be lent, each call is refused exactly by the first of its rows that holds, at that row's place; and what is left in lent
+-- memory is fixed (`Leaves`: both buffers as they were by 1 to 8, zeros by 9 and 10, and zeros wherever an answered match packs nothing).
+--
+-- In which order the rows of a call stand, whatever is lent, is a law of the rows alone (`order`, meaning/proofs/First). A refused match returns no degrees:
+-- its answer has no room for them; for C, where they go to two lent numbers, that these are 0 then is in the promise of the call (`ShxMatch` of `capi`).
 use mathlib.Core.Path.{_≡_}
 use mathlib.Core.Logic.{_↔_, _⊎_}
 use mathlib.Core.List.{List}
@@ -10,9 +12,9 @@ use denote.Ref.{now}
 use Rattle.theory.specs.Pairs.{Pair}
 use Rattle.meaning.specs.File.{symbolCount, pairCount}
 use Rattle.meaning.specs.Refusals.{Row, Given, tableRows}
-use Rattle.meaning.specs.Calls.{refused, symbolRows, degreeRows, subtermRows, nearerRows, lowestIn, highestIn, matchRows, writerRows, backRows}
+use Rattle.meaning.specs.Calls.{refused, symbolRows, degreeRows, subtermRows, nearerRows, matchRows, writerRows, backRows}
 use Rattle.meaning.specs.Saved.{widenRows}
-use Rattle.meaning.specs.Demands.{Exactly, Order}
+use Rattle.meaning.specs.Demands.{Exactly}
 use Rattle.meaning.specs.Matching.{Leaves, Lengths}
 use Rattle.headings.specs.Terms.{Nodes}
 use Rattle.demands.specs.Program.{Program}
@@ -36,12 +38,7 @@ pub record Demand1 (P : Program) : Type 0 where
   -- refusals that show in what is handed back
   pub subterm : (table : List ℕ) (term : Nodes) (i : ℕ) → EmptyAt term (P .subterm table term i) ↔ (Refuses (subtermRows table (now term)) ⊎ (length (now term) ≤ i))
   pub nearer : (table heading : List ℕ) (one two : Nodes) → EmptyAt one (P .nearer table heading one two) ↔ Refuses (nearerRows table heading (now one) (now two))
-  -- the numbers of the rows, in the order tested
-  pub order : Order
-  -- what a refused match returns, and what is left in lent memory
-  pub no-degrees : (table pattern heading : List ℕ) (cut : ℕ) (spans sets : List ℕ) (n place : ℕ)
-      → P .match table pattern heading cut spans sets .answer ≡ refused n place
-      → (lowestIn (P .match table pattern heading cut spans sets .answer) ≡ 0) × (highestIn (P .match table pattern heading cut spans sets .answer) ≡ 0)
+  -- what is left in lent memory
   pub match-leaves : (table pattern heading : List ℕ) (cut : ℕ) (spans sets : List ℕ) → Leaves spans sets (P .match table pattern heading cut spans sets)
   pub writer-leaves : (arities : List ℕ) (pairs : List Pair) (output : List ℕ) (n place : ℕ)
       → P .writeTable arities pairs output .answer ≡ refused n place → P .writeTable arities pairs output .output ≡ output

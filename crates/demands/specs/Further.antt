@@ -15,11 +15,11 @@ use Rattle.meaning.specs.Calls.{Answer, refused, gives, degreeRows, aye, Degree
 use Rattle.meaning.specs.Demands.{WritesTerm, WritesPattern, Accepted}
 use Rattle.meaning.specs.Tables.{TableFile, TopNotListed, TopNotWritten, SymbolDegrees, MadeRicher, ReadBack, RoundTrip}
 use Rattle.meaning.specs.Saved.{savedRoom, Widens, leftThen}
-use Rattle.meaning.specs.Parts.{TermLists}
 use Rattle.meaning.specs.Matching.{Reasons, SetsAndDegrees, VariableDegrees, PackedInOrder, NoOverlap}
 use Rattle.meaning.specs.TopCut.{MatchersMakeIt, AtTopCut}
 use Rattle.demands.specs.Program.{Program}
 use Rattle.demands.specs.Handed.{HandedBack}
+use Rattle.demands.specs.NoTerm.{RefusesNoTerms}
 use Rattle.demands.specs.Richer.{LosesNothing}
 
 -- ---- headings, by what the program itself says of symbols and of headings
@@ -63,7 +63,7 @@ pub record Further (P : Program) : Type 0 where
   pub reads-back : (table : List ℕ) → SoundFile table → ReadBack table (P .arityOf table) (P .pairOf table)
   pub round-trip : RoundTrip (P .writeTable)
   -- headings and their parts
-  pub terms : (table : List ℕ) → SoundFile table → TermLists table
+  pub terms : (table : List ℕ) → P .isTable table ≡ gives aye → RefusesNoTerms P table
   pub paired : (table one two : List ℕ) (d : ℕ) → P .headingDegree table one two ≡ gives d → LowestPaired (P .symbolDegree table) one two d
   pub same-heading : (table one two : List ℕ) → first (degreeRows table one two) ≡ none → P .headingDegree table one two ≡ gives 1000 ↔ (one ≡ two)
   pub handed-back : HandedBack P
@@ -71,7 +71,8 @@ pub record Further (P : Program) : Type 0 where
   pub matches : (table pattern heading : List ℕ) (cut : ℕ) (spans sets : List ℕ) → Accepted table pattern heading cut spans sets
       → (p : Pattern) → WritesPattern (tableIn table) pattern p → (h : Term) → WritesTerm (tableIn table) heading h
       → MatchSays (tableIn table) cut p h pattern (P .match table pattern heading cut spans sets)
-  -- the match at cut 1000
+  -- the match at cut 1000. The first sentence names no match: it says what it means that the program accepts a table, and would not hold of one that accepts
+  -- a file in which two different symbols have degree 1000. (`made-richer` below too says what that means.)
   pub matchers-make-it : (table : List ℕ) → P .isTable table ≡ gives aye → MatchersMakeIt table
   pub top-cut : (table pattern heading spans sets : List ℕ) → Accepted table pattern heading 1000 spans sets
       → (p : Pattern) → WritesPattern (tableIn table) pattern p → (h : Term) → WritesTerm (tableIn table) heading h

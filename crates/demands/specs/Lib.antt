@@ -1,5 +1,6 @@
 -- The demands on the whole program, over any program whatever. `Program` says what a program is and what one promises; `Demand1`, `Demand2` and
--- `Demand3` are the three demands; `Further` is what else is said of the calls, with `Handed` on lists that are handed back and `Richer` on two tables.
+-- `Demand3` are the three demands; `Further` is what else is said of the calls, with `Handed` on lists that are handed back, `NoTerm` on lists that are
+-- refused, and `Richer` on two tables.
 -- `Public` ties all of it to the public calls: any results that their promises allow are such a program, with one of the two writers; `OnNumbers` has the
 -- other.
 --
@@ -8,6 +9,7 @@
 -- program which keeps its promises meets them all; proofs/Settles the other direction, that a program which meets them keeps its promises.
 pub mod Program
 pub mod Handed
+pub mod NoTerm
 pub mod Demand1
 pub mod Demand2
 pub mod Demand3

@@ -31,7 +31,8 @@ pub record StillAnswers (T R : Table) (p : Pattern) (r₁ r₂ : Matched) : Type
       → holds (r₁ .sets) position symbol ≡ true → holds (r₂ .sets) position symbol ≡ true
   pub drawn : (σ : ℕ → Term) → DrawnBy T p r₁ σ → DrawnBy R p r₂ σ
 
--- What is said of two such calls of which neither is refused for its input or its room: the lists write the same trees over both tables.
+-- What is said of two such calls of which neither is refused for its input or its room: the lists write the same trees over both tables. (`matchers` names
+-- neither result; `drawn` in `answered` says it of what the two calls left.)
 pub record LosesNothing (table₁ table₂ pattern heading : List ℕ) (cut : ℕ) (r₁ r₂ : Matched) : Type 0 where
   pub p : Pattern
   pub h : Term
