@@ -1,14 +1,13 @@
 -- Lists can be handed back as is promised, whatever is lent: a part as a reference of its own into the list, a candidate as the reference that was lent.
 use mathlib.Core.Path.{refl}
-use Prim.Native.Nat.{_+_, _*_}
-use lib.ListN.{take, drop}
-use denote.Ref.{now, ptr, name}
+use denote.Ref.{now}
 use Rattle.meaning.specs.Calls.{Part, part, subterm, Nearer, theFirst, theSecond, neither, nearer}
 use Rattle.headings.specs.Terms.{Nodes, IsPart, IsChosen}
+use Rattle.demands.specs.ForC.{partFrom}
 use Rattle.demands.proofs.Meant.{Handing, HandsBack}
 
 abbrev partRef : Nodes → Part → Nodes
-partRef list (part start count) = record { ptr = (ptr list .0, ptr list .1 + 2 * start); name = name list; now = take count (drop start (now list)) }
+partRef list (part start count) = partFrom list start count
 
 part-met : (list : Nodes) (p : Part) → IsPart list (partRef list p) p
 part-met list (part start count) = record { holds = refl; block = refl; offset = refl }

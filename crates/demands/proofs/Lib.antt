@@ -23,6 +23,9 @@ pub mod Handing
 pub mod Possible
 pub mod Lent
 pub mod Instances
+-- the calls for C are such a program
+pub mod Decoded
+pub mod ForC
 -- wrong programs, and the statement at which each fails
 pub mod Wrong
 pub mod WrongRefusals

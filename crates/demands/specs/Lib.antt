@@ -2,7 +2,7 @@
 -- `Demand3` are the three demands; `Further` is what else is said of the calls, with `Handed` on lists that are handed back, `NoTerm` on lists that are
 -- refused, and `Richer` on two tables.
 -- `Public` ties all of it to the public calls: any results that their promises allow are such a program, with one of the two writers; `OnNumbers` has the
--- other.
+-- other. `ForC` does so for the calls as C sees them.
 --
 -- Each is one record, a statement a field. What a statement says of one result, or of two, is in words of the crate `meaning`: specs/Refusals (rows),
 -- specs/Buffers (reading an answer), specs/Demands, specs/Tables, specs/Parts, specs/Matching, specs/TopCut. proofs/Keeps has the one theorem, that a
@@ -17,4 +17,5 @@ pub mod Richer
 pub mod Further
 pub mod Public
 pub mod OnNumbers
+pub mod ForC
 pub mod Unique

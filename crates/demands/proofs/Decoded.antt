@@ -1,0 +1,148 @@
+-- What a call for C hands over says all of its answer. A code other than 0 has the refusal's number and place, and 0 says that the pointers have what was
+-- given; a subterm has one node at least, so that its count tells it from the empty part; and each choice has a number of its own.
+use mathlib.Core.Path.{_≡_, refl, ap, subst}
+use mathlib.Core.Logic.{_⊎_, inl, inr}
+use mathlib.Core.List.{List}
+use mathlib.Core.Option.{Option, none, some as just}
+use Prim.Native.Nat.{ℕ, _+_, _*_, _<_}
+use native.Mathlib.Omega.{arith}
+use native.Mathlib.Decide.{decLt}
+use lib.ListN.{length}
+use borrow.Author.Tests.{ne-eqb}
+use denote.Ref.{now}
+use Rattle.theory.specs.Tree.{Pattern, var, sym, encₚ}
+use Rattle.meaning.specs.Refusals.{Refusal as Given, refusal, first}
+use Rattle.meaning.specs.Calls.{Answer, gives, refusedAs, aye, degrees, isTable, symbolDegree, headingDegree, matched, written, arityBack, pairBack, Part, part, subtermRows, subterm, Nearer, theFirst, theSecond, neither, nearer}
+use Rattle.meaning.specs.Saved.{widenedCount}
+use Rattle.meaning.proofs.Parts.{subterms}
+use Rattle.refusal.specs.Told.{told, refusedBy}
+use Rattle.refusal.specs.declared.Refusal.{Refusal}
+use Rattle.writer.specs.Said.{said}
+use Rattle.writer.specs.declared.Writing.{Writing}
+use Rattle.writer.specs.declared.Writing.the-variants.{Written, Refused as NotWritten}
+use Rattle.refusal.specs.Outcomes.{saidMatch}
+use Rattle.refusal.specs.declared.Outcome.{Outcome}
+use Rattle.refusal.specs.declared.Outcome.the-variants.{Match, Refused as NoMatch}
+use Rattle.tables.specs.declared.TableAnswer.{TableAnswer}
+use Rattle.tables.specs.declared.TableAnswer.the-variants.{Table as IsOne, Refused as NoTable}
+use Rattle.tables.specs.declared.DegreeAnswer.{DegreeAnswer}
+use Rattle.tables.specs.declared.DegreeAnswer.the-variants.{Degree, Refused as NoDegree}
+use Rattle.tables.specs.declared.ArityAnswer.{ArityAnswer}
+use Rattle.tables.specs.declared.ArityAnswer.the-variants.{Arity, Refused as NoArity}
+use Rattle.tables.specs.declared.PairAnswer.{PairAnswer}
+use Rattle.tables.specs.declared.PairAnswer.the-variants.{Listed, Refused as NoPair}
+use Rattle.tables.specs.Tables.{saidTable, saidDegree, saidArity, saidPair}
+use Rattle.table.specs.Read.{pairIn}
+use Rattle.table.specs.declared.read.Pair.{Pair as Record}
+use Rattle.records.specs.Records.{listed}
+use Rattle.headings.specs.Terms.{Nodes, IsPart, Subterm, IsChosen, Nearer as NearerTo, accepted}
+use Rattle.headings.proofs.Lists.{no-subterm}
+use Rattle.capi.specs.Answers.{codeOf, coded}
+use Rattle.capi.specs.Terms.{countOf, chosen}
+use Rattle.capi.proofs.OneCapi.{Tells, code-tells}
+use Rattle.demands.specs.ForC.{answerOf, subtermOf, nearerOf}
+use Rattle.demands.proofs.Possible.{some-calls, kept}
+
+-- ---- codes
+
+-- a code gives the answer back, where what the pointers have is what was given
+abbrev pub Decodes : {A : Type 0} → Answer A → Type 0
+Decodes {A} answer = (left : Answer A → A) → ((a : A) → left (gives a) ≡ a) → answerOf (coded answer) (left answer) ≡ answer
+
+gives-decodes : {A : Type 0} (a : A) → Decodes (gives a)
+gives-decodes a left e = ap gives (e a)
+
+refused-decodes : {A : Type 0} (why : Refusal) → Decodes {A = A} (refusedBy why)
+refused-decodes {A} why left e = go (told why) (code-tells why)
+  where
+    go : (g : Given) → Tells (codeOf g) g → answerOf (coded {A = A} (refusedAs g)) (left (refusedAs g)) ≡ refusedAs g
+    go (refusal n place) t = rw (ne-eqb (n + 65536 * place) 0 (λ z. omega (arith, t .some, z)), t .low, t .high)
+
+-- LAW: it does of each call's answer, since every answer is one that a case says
+module _ (table : List ℕ) where
+  pub table-decodes : Decodes (isTable table)
+  table-decodes = subst Decodes (kept .is-table table) (go (some-calls .isTable table))
+    where
+      go : (r : TableAnswer) → Decodes (saidTable r)
+      go IsOne = gives-decodes aye
+      go (NoTable why) = refused-decodes why
+
+  degrees-decode : (r : DegreeAnswer) → Decodes (saidDegree r)
+  degrees-decode (Degree d) = gives-decodes d
+  degrees-decode (NoDegree why) = refused-decodes why
+
+  pub symbols-decode : (a b : ℕ) → Decodes (symbolDegree table a b)
+  symbols-decode a b = subst Decodes (kept .symbol-degree table a b) (degrees-decode (some-calls .symbolDegree table a b))
+
+  pub headings-decode : (one two : List ℕ) → Decodes (headingDegree table one two)
+  headings-decode one two = subst Decodes (kept .heading-degree table one two) (degrees-decode (some-calls .headingDegree table one two))
+
+  pub match-decodes : (pattern heading : List ℕ) (cut : ℕ) (spans sets : List ℕ) → Decodes (matched table pattern heading cut spans sets)
+  match-decodes pattern heading cut spans sets =
+      subst Decodes (kept .match table pattern heading cut spans sets .answers) (go (some-calls .match table pattern heading cut spans sets .outcome))
+    where
+      go : (r : Outcome) → Decodes (saidMatch r)
+      go (Match low high) = gives-decodes (degrees low high)
+      go (NoMatch why) = refused-decodes why
+
+  pub arity-decodes : (symbol : ℕ) → Decodes (arityBack table symbol)
+  arity-decodes symbol = subst Decodes (kept .arity-of table symbol) (go (some-calls .arityOf table symbol))
+    where
+      go : (r : ArityAnswer) → Decodes (saidArity r)
+      go (Arity n) = gives-decodes n
+      go (NoArity why) = refused-decodes why
+
+  pub pair-decodes : (index : ℕ) → Decodes (pairBack table index)
+  pair-decodes index = subst Decodes (kept .pair-of table index) (go (some-calls .pairOf table index))
+    where
+      go : (r : PairAnswer) → Decodes (saidPair r)
+      go (Listed p) = gives-decodes (pairIn p)
+      go (NoPair why) = refused-decodes why
+
+writings-decode : (r : Writing) → Decodes (said r)
+writings-decode (Written n) = gives-decodes n
+writings-decode (NotWritten why) = refused-decodes why
+
+pub writer-decodes : (arities : List ℕ) (records : List Record) (output : List ℕ) → Decodes (written arities (listed records) output)
+writer-decodes arities records output =
+    subst Decodes (kept .write-records arities records output .answers) (writings-decode (some-calls .writeRecords arities records output .writing))
+
+pub widen-decodes : (words output : List ℕ) → Decodes (widenedCount words output)
+widen-decodes words output = subst Decodes (kept .widen words output .answers) (writings-decode (some-calls .widen words output .writing))
+
+-- ---- a subterm by its number of nodes
+
+-- where something is handed back at all, it has nodes and begins at the index
+abbrev Shown : ℕ → Part → Type 0
+Shown i p = (p ≡ part 0 0) ⊎ ((n : ℕ) × (0 < n) × (p ≡ part i n))
+
+some-nodes : (q : Pattern) → 0 < length (encₚ q)
+some-nodes (var v) = omega arith
+some-nodes (sym f ps) = omega arith
+
+shown : (table term : List ℕ) (i : ℕ) → Shown i (subterm table term i)
+shown table term i = go (first (subtermRows table term)) refl (decLt i (length term))
+  where
+    go : (o : Option Given) → first (subtermRows table term) ≡ o → Dec (i < length term) → Shown i (subterm table term i)
+    go (just r) e d = inl (no-subterm table term (ap accepted e) i)
+    go none e (yes l) = let s = subterms .found table term i e l in inr (length (encₚ (s .q)), some-nodes (s .q), s .handed-back)
+    go none e (no n) = inl (subterms .outside-part table term i (omega arith))
+
+-- LAW: so its count says which part it is
+pub subterm-decodes : (table : List ℕ) (term : Nodes) (i : ℕ) → Subterm table term i (subtermOf term i (countOf (subterm table (now term) i)))
+subterm-decodes table term i = go (subterm table (now term) i) (shown table (now term) i)
+  where
+    go : (p : Part) → Shown i p → IsPart term (subtermOf term i (countOf p)) p
+    go p (inl e) = rw e (record { holds = refl; block = refl; offset = refl })
+    go p (inr (n, l, e)) = rw (e, ne-eqb n 0 (λ z. omega arith)) (record { holds = refl; block = refl; offset = refl })
+
+-- ---- the nearer by its number
+
+-- LAW
+pub nearer-decodes : (table heading : List ℕ) (one two : Nodes) → NearerTo table heading one two (nearerOf one two (chosen (nearer table heading (now one) (now two))))
+nearer-decodes table heading one two = go (nearer table heading (now one) (now two))
+  where
+    go : (which : Nearer) → IsChosen one two (nearerOf one two (chosen which)) which
+    go theFirst = refl
+    go theSecond = refl
+    go neither = record { holds = refl; block = refl; offset = refl }
