@@ -14,7 +14,7 @@ fn main() {
     let mut sets = [0u64; MOST_ROOM];
     let mut out = io::large_buffer();
     match serve(&input[at..end], &mut sets, &mut out, 0) {
-        Pending::Bytes(used) => {
+        Pending::Bytes(_, used) => {
             write_out(&out, used);
         }
         Pending::Failed => {}

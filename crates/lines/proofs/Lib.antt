@@ -6,5 +6,6 @@ pub mod Joined
 pub mod Seeking
 pub mod Putting
 pub mod Rest
+pub mod Lengths
 pub mod Turns
 pub mod Spans

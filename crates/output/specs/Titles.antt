@@ -1,13 +1,26 @@
--- The room that a question's own line takes, and the room that is left.
-use Prim.Native.Nat.{ℕ, _+_, _≤_}
-use Rattle.output.specs.declared.pending.Pending.{Pending}
-use Rattle.output.specs.declared.pending.Pending.the-variants.{Bytes, Failed}
+-- What is said of each question of a batch besides its answer.
+use mathlib.Core.List.{List, [], _∷_}
+use Prim.Native.Nat.{ℕ}
+use Rattle.meaning.specs.Program.{digits, line}
 
--- The line with a question's number has no more bytes.
+-- question, cut, off
+abbrev pub questionWord : List ℕ
+questionWord = 113 ∷ 117 ∷ 101 ∷ 115 ∷ 116 ∷ 105 ∷ 111 ∷ 110 ∷ []
+
+abbrev pub cutWord : List ℕ
+cutWord = 99 ∷ 117 ∷ 116 ∷ []
+
+abbrev pub offWord : List ℕ
+offWord = 111 ∷ 102 ∷ 102 ∷ []
+
+-- The line with a question's number, which may have twenty digits.
+unfoldable pub titleText : ℕ → List ℕ
+titleText k = line (questionWord ∷ digits 20 k [] ∷ [])
+
+-- The line of a question that ends before its last byte.
+abbrev pub cutOffText : List ℕ
+cutOffText = line (cutWord ∷ offWord ∷ [])
+
+-- A title has no more bytes.
 abbrev pub titleRoom : ℕ
 titleRoom = 30
-
--- Behind what is still to be written there is so much room, of all that the buffer has.
-abbrev pub Roomy : ℕ → ℕ → Pending → Type 0
-Roomy all room (Bytes used) = used + room ≤ all
-Roomy all room Failed = Unit {0}

@@ -1,44 +1,55 @@
 // Text to standard output, by way of a buffer.
 ghost use mathlib.Core.Path.{_≡_};
-ghost use Prim.Native.Nat.{_≤_};
+ghost use Prim.Native.Nat.{_+_, _*_, _≤_, _<_};
 ghost use lib.ListN.{length};
-ghost use Rattle.lines.specs.Lines.{lineRoom, Spanned};
-ghost use Rattle.output.specs.Pendings.{Standing, isOver};
+ghost use Rattle.refusal.specs.Outcomes.{resultOf};
+ghost use Rattle.lines.specs.Lines.{lineRoom, textIn, Spanned};
+ghost use Rattle.lines.specs.Lengths.{mostSets};
+ghost use Rattle.output.specs.Pendings.{Said, HandedOver, Settled, handed, withWritten, isOver};
 use lines::filling::fill;
 use lines::line::Cursor;
 use refusal::Outcome;
 
-// What stands in the buffer and is still to be written.
+// What has come of text that was to be written.
 pub enum Pending {
-    // so many bytes, from the front on
-    Bytes(usize),
+    // so many bytes were handed over, and so many stand in the buffer, from the front on
+    Bytes(usize, usize),
     // a write has failed, so nothing more is written
     Failed,
 }
 
-// Writes the first bytes of the buffer; whether all were taken. That they were not is told.
-pub fn write_out(out: &[u8], used: usize) -> bool
+// Writes the first bytes of the buffer, all of them. That they were not taken is told.
+pub fn write_out(out: &[u8], used: usize) -> Pending
     requires { ⌜ used ≤ length (now out) ⌝ }
+    ensures { λ r. ⌜ HandedOver used r ⌝ }
 {
-    let taken = io::write_all(libc::STDOUT_FILENO, &out[..used]);
-    if !taken {
-        os::fail(b"standard output");
+    if io::write_all(libc::STDOUT_FILENO, &out[..used]) {
+        return Pending::Bytes(used, 0);
     }
-    taken
+    os::fail(b"standard output");
+    Pending::Failed
 }
 
 // Before one waits, what stands in the buffer is written.
 pub fn settle(out: &[u8], used: usize, waits: bool) -> Pending
     requires { ⌜ used ≤ length (now out) ⌝ }
-    ensures { λ r. ⌜ Standing (length (now (out .entry))) r ⌝ }
+    ensures { λ r. ⌜ Settled used waits r ⌝ }
 {
-    if !waits {
-        return Pending::Bytes(used);
-    }
-    if write_out(out, used) {
-        Pending::Bytes(0)
+    if waits {
+        write_out(out, used)
     } else {
-        Pending::Failed
+        Pending::Bytes(0, used)
+    }
+}
+
+// What was handed over before counts too.
+pub fn with_written(more: usize, pending: Pending) -> Pending
+    requires { ⌜ more + handed pending < 18446744073709551616 ⌝ }
+    ensures { λ r. ⌜ r ≡ withWritten more pending ⌝ }
+{
+    match pending {
+        Pending::Bytes(written, end) => Pending::Bytes(more + written, end),
+        Pending::Failed => Pending::Failed,
     }
 }
 
@@ -61,19 +72,26 @@ pub fn put_answer(
     out: &mut [u8],
     used: usize,
 ) -> Pending
-    requires { ⌜ Spanned (now spans) (now sets) × (used ≤ length (now out)) × (lineRoom ≤ length (now out)) ⌝ }
-    ensures { λ r. ⌜ Standing (length (now (out .entry))) r ⌝ }
+    requires { ⌜ Spanned (now spans) (now sets) × (length (now sets) ≤ mostSets) ⌝ }
+    requires { ⌜ (used ≤ length (now out)) × (lineRoom ≤ length (now out)) ⌝ }
+    ensures { λ r. ⌜ Said (now (out .entry)) used (textIn (resultOf outcome (now (spans .entry)) (now (sets .entry)))) r (now (out .exit)) ⌝ }
 {
     let filled = fill(outcome, spans, sets, Cursor::First, out, used);
+    let mut written = 0;
     let mut end = filled.end;
     let mut cursor = filled.cursor;
     while !is_over(cursor) {
-        if !write_out(out, end) {
-            return Pending::Failed;
+        match write_out(out, end) {
+            Pending::Bytes(gone, left) => {
+                let more = fill(outcome, spans, sets, cursor, out, left);
+                written += gone;
+                end = more.end;
+                cursor = more.cursor;
+            }
+            Pending::Failed => {
+                return Pending::Failed;
+            }
         }
-        let more = fill(outcome, spans, sets, cursor, out, 0);
-        end = more.end;
-        cursor = more.cursor;
     }
-    Pending::Bytes(end)
+    Pending::Bytes(written, end)
 }

@@ -3,3 +3,4 @@ pub mod Cutting
 pub mod Spans
 pub mod Asked
 pub mod Answering
+pub mod Served

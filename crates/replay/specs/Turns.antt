@@ -6,11 +6,11 @@ use Rattle.replay.specs.declared.Turn.{Turn}
 use Rattle.replay.specs.declared.Turn.the-variants.{Go, Stop, Failed}
 
 abbrev pub goOn : ℕ → ℕ → Pending → Turn
-goOn at end (Bytes used) = Go at end used
+goOn at end (Bytes written used) = Go at end used
 goOn at end NotWritten = Failed
 
 abbrev pub stopAt : Pending → Turn
-stopAt (Bytes used) = Stop used
+stopAt (Bytes written used) = Stop used
 stopAt NotWritten = Failed
 
 abbrev pub Held : ℕ → ℕ → Turn → Type 0

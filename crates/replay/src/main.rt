@@ -32,7 +32,7 @@ fn go(at: usize, end: usize, pending: Pending) -> Turn
     ensures { λ r. ⌜ r ≡ goOn at end pending ⌝ }
 {
     match pending {
-        Pending::Bytes(used) => Turn::Go(at, end, used),
+        Pending::Bytes(_, used) => Turn::Go(at, end, used),
         Pending::Failed => Turn::Failed,
     }
 }
@@ -41,7 +41,7 @@ fn stop(pending: Pending) -> Turn
     ensures { λ r. ⌜ r ≡ stopAt pending ⌝ }
 {
     match pending {
-        Pending::Bytes(used) => Turn::Stop(used),
+        Pending::Bytes(_, used) => Turn::Stop(used),
         Pending::Failed => Turn::Failed,
     }
 }
@@ -86,7 +86,7 @@ fn take_turn(
     ensures { λ r. ⌜ Held (length (now (buffer .entry))) (length (now (out .entry))) r ⌝ }
 {
     match settle(out, used, at == end) {
-        Pending::Bytes(left) => {
+        Pending::Bytes(_, left) => {
             let next = next_question(buffer, at, end);
             answer_next(k, next, buffer, sets, out, left)
         }

@@ -1,8 +1,7 @@
 -- What is lent lies in the buffers.
 use borrow.Author.Needs.{needs}
-use mathlib.Core.Path.{subst}
 use native.Mathlib.Omega.{arith}
-use Rattle.output.specs.Pendings.{Standing}
+use Rattle.output.proofs.Saying.{said-inside}
 use Rattle.ask.proofs.main.Statement.{statement}
 use Rattle.ask.proofs.main.Tie as tie
 
@@ -45,7 +44,7 @@ slice-aggregate-write-out c = search needs
 write-out-requires : tie.Need-write-out-requires
 write-out-requires c κs =
     let said = c .before .before .before .before .before .before .serve in
-    omega (arith, subst (Standing _) (c .before .before .used .given .1) (said .ensures), said .kept .1 .1 .0)
+    omega (arith, said-inside _ _ _ (said .result) _ (said .ensures .said) (c .before .before .used .given .1), said .kept .1 .1 .0)
 
 enum-told : tie.Need-enum-told
 enum-told c = search needs

@@ -65,7 +65,7 @@ returns-2 : tie.Need-returns-2
 returns-2 c =
     let a = c .before .before .before .before .before .before .before .before .before .before .args in
     let said = c .before .before .before .say-cut-off in
-    subst (Held (length (now (a .buffer))) (length (now (a .out)))) (sym (c .stop .ensures)) (held-stop (length (now (a .buffer))) (length (now (a .out))) (said .result) (said .ensures))
+    subst (Held (length (now (a .buffer))) (length (now (a .out)))) (sym (c .stop .ensures)) (held-stop (length (now (a .buffer))) (now (a .out)) (a .used) _ (said .result) _ (said .ensures))
 
 same-length-2 : tie.Need-same-length-2
 same-length-2 c = search needs
@@ -76,7 +76,7 @@ returns-3 c =
     let next = subst (Found _) (at .1) (c .before .before .before .before .before .before .before .before .before .before .before .pre .0) in
     let a = c .before .before .before .before .before .before .before .before .before .before .before .args in
     let said = c .before .before .before .say-too-long in
-    subst (Held (length (now (a .buffer))) (length (now (a .out)))) (sym (c .go .ensures)) (held-go (length (now (a .buffer))) (length (now (a .out))) (at .0 .0) (at .0 .1 .0) (said .result) (next .0) (next .1) (said .ensures))
+    subst (Held (length (now (a .buffer))) (length (now (a .out)))) (sym (c .go .ensures)) (held-go (length (now (a .buffer))) (now (a .out)) (a .used) _ (at .0 .0) (at .0 .1 .0) (said .result) _ (next .0) (next .1) (said .ensures))
 
 same-length-3 : tie.Need-same-length-3
 same-length-3 c = search needs
@@ -90,7 +90,7 @@ returns-4 c =
     let at = c .before .before .before .before .before .before .before .before .before .before .next2 .given .0 in
     let a = c .before .before .before .before .before .before .before .before .before .before .before .before .before .before .before .args in
     let said = c .before .before .before .before .before .say-answer in
-    subst (Held (length (now (a .buffer))) (length (now (a .out)))) (sym (c .go2 .ensures)) (held-go (length (now (a .buffer))) (length (now (a .out))) (at .1 .0) (at .1 .1 .0) (said .result) (next .1) (next .2) (said .ensures))
+    subst (Held (length (now (a .buffer))) (length (now (a .out)))) (sym (c .go2 .ensures)) (held-go (length (now (a .buffer))) (now (a .out)) (a .used) _ (at .1 .0) (at .1 .1 .0) (said .result) _ (next .1) (next .2) (said .ensures))
 
 pub answer-next-spec : {M : Type 1} → statement M
 answer-next-spec =

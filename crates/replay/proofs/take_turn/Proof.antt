@@ -3,9 +3,10 @@ use borrow.Author.Needs.{needs}
 use mathlib.Core.Path.{sym, subst}
 use native.Mathlib.Omega.{arith}
 use denote.Ref.{now}
+use lib.Dec.{eqb}
 use lib.ListN.{length}
 use Rattle.input.specs.Found.{Found}
-use Rattle.output.specs.Pendings.{Standing}
+use Rattle.output.proofs.Saying.{passed-settled}
 use Rattle.replay.specs.Turns.{Held}
 use Rattle.replay.proofs.take_turn.Statement.{statement}
 use Rattle.replay.proofs.take_turn.Tie as tie
@@ -22,7 +23,9 @@ next-question-requires c κs = search needs
 answer-next-requires : tie.Need-answer-next-requires
 answer-next-requires c κs =
     let next = c .before .before .before .before .before .next-question in
-    let stands = subst (Standing _) (c .before .before .before .before .before .before .before .before .left .given .1) (c .before .before .before .before .before .before .before .before .before .before .settle .ensures) in
+    let s = c .before .before .before .before .before .before .before .before .before .before .before .before .before .before .before in
+    let settled = c .before .before .before .before .before .before .before .before .before .before .settle in
+    let stands = passed-settled (s .args .out .now) (s .args .used) (eqb (s .args .at) (s .args .end)) (settled .result) (omega arith) (settled .ensures) (c .before .before .before .before .before .before .before .before .left .given .1) .inside in
     (subst (λ n. Found n (next .result)) (sym (next .kept .0)) (next .ensures), (omega arith, omega (arith, stands), omega arith))
 
 enum-told : tie.Need-enum-told

@@ -1,10 +1,11 @@
--- The word has nine bytes, the number at most twenty, and the line end one.
+-- The word with its space has nine bytes, the number at most twenty, and the line end one; one behind the other they are the line.
 use borrow.Author.Needs.{needs}
-use mathlib.Core.Path.{sym}
+use mathlib.Core.Path.{sym, _∙_}
 use Prim.Native.Nat.{_≤_}
 use native.Mathlib.Omega.{arith}
 use lib.Seq.{length-take-le}
-use Rattle.output.proofs.Digits.{few-digits}
+use Rattle.output.proofs.Digits.{few-digits, same-digits}
+use Rattle.output.proofs.Titles.{put-title}
 use Rattle.output.proofs.say.put_title.Statement.{statement}
 use Rattle.output.proofs.say.put_title.Tie as tie
 
@@ -47,10 +48,12 @@ same-length c = search needs
 
 returns : tie.Need-returns
 returns c =
+    let s = c .before .before .before .before .before .before .before .before .before .before .before .before .before .before .before .before .before in
+    let said = c .before .before .before .before .before .before .before .before .before .before .before .before .before .before .decimal in
     let word = c .before .before .before .before .before .before .before .before .before .before .before .put-text in
     let two = c .before .before .before .before .before .before .put-text2 in
-    let digits = c .before .before .before .before .before .before .before in
-    omega (arith, word .ensures .ends, two .ensures .ends, c .before .before .put-byte .ensures .ends, number digits, slice-aggregate-put-text-2 digits)
+    let number-is = said .ensures .1 .1 ∙ same-digits (said .result) 20 (s .args .k) (said .ensures .1 .0) (number (c .before .before .before .before .before .before .before)) in
+    put-title (s .args .k) number-is (word .ensures) (two .ensures) (c .before .before .put-byte .ensures) (word .kept .0) (two .kept .0)
 
 pub put-title-spec : {M : Type 1} → statement M
 put-title-spec =

@@ -26,7 +26,8 @@ serve-in-requires : tie.Need-serve-in-requires
 serve-in-requires c κs =
     let s = c .before .before .before .before .before .before in
     let room = c .before .before in
-    (omega (arith, room .room-for .ensures, length-take-le (room .room-for .result) (now (s .args .sets)) (room-inside room)), s .pre .1, s .pre .2)
+    let long = length-take-le (room .room-for .result) (now (s .args .sets)) (room-inside room) in
+    ((omega (arith, room .room-for .ensures, long), omega (arith, room .room-for .ensures, room-most (now (s .args .question)), long)), (s .pre .1, s .pre .2))
 
 same-length : tie.Need-same-length
 same-length c = search needs
