@@ -1,4 +1,5 @@
--- The public calls as users run them: any results, and any later contents of lent memory, that the calls' promises allow.
+-- The public calls as users run them: any results, and any later contents of lent memory, that the calls' promises allow. (That each call's code ensures its
+-- promise, and asks for nothing, is proved in the call's crate, proofs/Tied.)
 use mathlib.Core.List.{List, map}
 use Prim.Native.Nat.{ℕ}
 use Rattle.theory.specs.Pairs.{Pair, pair}

@@ -12,7 +12,8 @@ use Rattle.tables.specs.declared.DegreeAnswer.{DegreeAnswer}
 use Rattle.tables.specs.declared.ArityAnswer.{ArityAnswer}
 use Rattle.tables.specs.declared.PairAnswer.{PairAnswer}
 use Rattle.tables.specs.Tables.{IsTable, SymbolDegree, ArityOf, PairAt}
-use Rattle.headings.specs.Terms.{Nodes, DegreeOfHeadings, Subterm, Nearer}
+use Rattle.headings.specs.declared.Choice.{Choice}
+use Rattle.headings.specs.Terms.{Nodes, DegreeOfHeadings, Subterm, Nearer, Choose}
 use Rattle.matches.specs.Matching.{MatchHeading}
 use Rattle.tables.specs.Writing.{WriteTable}
 use Rattle.records.specs.Records.{WriteRecords}
@@ -26,6 +27,7 @@ pub record Unique : Type 0 where
       → (now r ≡ now s) × (ptr r ≡ ptr s)
   pub nearer : (table heading : List ℕ) (one two : Nodes) (r s : Nodes) → Nearer table heading one two r → Nearer table heading one two s
       → (now r ≡ now s) × (ptr r ≡ ptr s)
+  pub choose : (table heading one two : List ℕ) (r s : Choice) → Choose table heading one two r → Choose table heading one two s → r ≡ s
   pub match : (table pattern heading : List ℕ) (cut : ℕ) (spans sets : List ℕ) (r r′ : Outcome) (s s′ t t′ : List ℕ)
       → MatchHeading table pattern heading cut spans sets r s t → MatchHeading table pattern heading cut spans sets r′ s′ t′
       → (r ≡ r′) × (s ≡ s′) × (t ≡ t′)

@@ -12,7 +12,8 @@ use denote.Triple.Clauses.{Ended, AtExit, Clauses, closing}
 use denote.Triple.Entry.{Args, Res}
 use denote.Triple.Spec.{Meets}
 
--- A promise of a function with this signature: of its arguments, its result, and its arguments at exit.
+-- A promise of a function with this signature: of its arguments, its result, and its arguments at exit. (Of arguments a the first is `a .0`, the second
+-- `a .1 .0`, and so on.)
 abbrev pub PromiseOf : Ended → Type 1
 PromiseOf T = (κs : Lfts (T .signature .lifetimes)) (a : Args (T .signature) κs) → Res (T .signature) κs → AtExit T κs → Type 0
 
