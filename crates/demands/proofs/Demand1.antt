@@ -1,5 +1,5 @@
 -- Demand 1 holds of the meaning's program: each call there answers unless a row refuses, so the law of `first` says when; and what is left in lent
--- memory is chosen by the refusal's number.
+-- memory is chosen by the refusal's number. An empty list is handed back only there, since what writes a tree has a node.
 use mathlib.Core.Path.{_≡_, refl, sym as inv, ap, _∙_, subst}
 use mathlib.Core.Logic.{_↔_, _⊎_, inl, inr}
 use mathlib.Core.List.{List, []}

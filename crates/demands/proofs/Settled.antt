@@ -1,5 +1,5 @@
 -- What the statements leave open of calls on tables, headings and their parts: nothing. Two programs that meet them give the same. Where a row refuses,
--- both give that refusal; where none does, the sentences on the call leave one value.
+-- both give that refusal; where none does, the sentences on the call leave one value. And a list can only be handed back as is promised.
 use mathlib.Core.Path.{_≡_, refl, sym as inv, ap, ap₂, _∙_, subst}
 use mathlib.Core.Logic.{_⊎_, inl, inr}
 use mathlib.Core.List.{List, [], _∷_}

@@ -1,5 +1,6 @@
 -- The other direction: demand 1, demand 2 and the further statements leave nothing open. A program that meets them keeps every promise, since of two
--- programs that meet them each call gives the same, and the meaning's program meets them. So no wrong program is left that they allow.
+-- programs that meet them each call gives the same, and the meaning's program meets them, with lists handed back in one way that is allowed. So no wrong
+-- program is left that they allow.
 use mathlib.Core.Path.{_≡_}
 use mathlib.Core.List.{List}
 use Prim.Native.Nat.{ℕ}
