@@ -18,6 +18,7 @@ use Rattle.meaning.proofs.Degrees.{symbol-degrees}
 use Rattle.meaning.proofs.PairsKept.{made-richer}
 use Rattle.meaning.proofs.Back.{reads-back}
 use Rattle.meaning.proofs.RoundTrip.{round-trip}
+use Rattle.meaning.proofs.Faults.{heading-faults, match-faults}
 use Rattle.meaning.proofs.Saved.{widens}
 use Rattle.meaning.proofs.AsToday.{as-today}
 use Rattle.meaning.proofs.Matched.{Ready, ready, demand2 as of-match}
@@ -91,6 +92,8 @@ further H k =
       reads-back = reads-back;
       round-trip = round-trip;
       terms = refuses-no-terms (meant H) (demand1 H k);
+      heading-faults = heading-faults;
+      match-faults = match-faults;
       paired = lowest-paired;
       same-heading = same-heading;
       handed-back = handed-back H k;

@@ -15,6 +15,7 @@ use Rattle.meaning.specs.Calls.{Answer, refused, gives, degreeRows, aye, Degree
 use Rattle.meaning.specs.Demands.{WritesTerm, WritesPattern, Accepted}
 use Rattle.meaning.specs.Tables.{TableFile, TopNotListed, TopNotWritten, SymbolDegrees, MadeRicher, ReadBack, RoundTrip}
 use Rattle.meaning.specs.Saved.{savedRoom, Widens, leftThen}
+use Rattle.meaning.specs.Faults.{HeadingFaults, MatchFaults}
 use Rattle.meaning.specs.Matching.{Reasons, SetsAndDegrees, VariableDegrees, PackedInOrder, NoOverlap}
 use Rattle.meaning.specs.TopCut.{MatchersMakeIt, AtTopCut}
 use Rattle.demands.specs.Program.{Program}
@@ -62,8 +63,10 @@ pub record Further (P : Program) : Type 0 where
   pub named-there-alone : NamedThereAlone P
   pub reads-back : (table : List ℕ) → SoundFile table → ReadBack table (P .arityOf table) (P .pairOf table)
   pub round-trip : RoundTrip (P .writeTable)
-  -- headings and their parts
+  -- headings and their parts: which lists are refused as no terms, and at which place
   pub terms : (table : List ℕ) → P .isTable table ≡ gives aye → RefusesNoTerms P table
+  pub heading-faults : HeadingFaults (P .headingDegree)
+  pub match-faults : MatchFaults (P .match)
   pub paired : (table one two : List ℕ) (d : ℕ) → P .headingDegree table one two ≡ gives d → LowestPaired (P .symbolDegree table) one two d
   pub same-heading : (table one two : List ℕ) → first (degreeRows table one two) ≡ none → P .headingDegree table one two ≡ gives 1000 ↔ (one ≡ two)
   pub handed-back : HandedBack P
