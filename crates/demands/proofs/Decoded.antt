@@ -1,13 +1,13 @@
 -- What a call for C hands over says all of its answer. A code other than 0 has the refusal's number and place, and 0 says that the pointers have what was
 -- given; a subterm has one node at least, so that its count tells it from the empty part; and each choice has a number of its own.
 use mathlib.Core.Path.{_≡_, refl, ap, subst}
-use mathlib.Core.Logic.{_⊎_, inl, inr}
+use mathlib.Core.Logic.{_↔_, _⊎_, inl, inr}
 use mathlib.Core.List.{List}
 use mathlib.Core.Option.{Option, none, some as just}
-use Prim.Native.Nat.{ℕ, _+_, _*_, _<_}
+use Prim.Native.Nat.{ℕ, _+_, _*_, _≤_, _<_}
 use native.Mathlib.Omega.{arith}
 use native.Mathlib.Decide.{decLt}
-use lib.ListN.{length}
+use lib.ListN.{length, drop, length-take, length-drop}
 use borrow.Author.Tests.{ne-eqb}
 use denote.Ref.{now}
 use Rattle.theory.specs.Tree.{Pattern, var, sym, encₚ}
@@ -112,31 +112,54 @@ widen-decodes words output = subst Decodes (kept .widen words output .answers) (
 
 -- ---- a subterm by its number of nodes
 
--- where something is handed back at all, it has nodes and begins at the index
-abbrev Shown : ℕ → Part → Type 0
-Shown i p = (p ≡ part 0 0) ⊎ ((n : ℕ) × (0 < n) × (p ≡ part i n))
+-- where something is handed back at all, it has nodes, begins at the index and ends within the list
+abbrev Shown : List ℕ → ℕ → Part → Type 0
+Shown term i p = (p ≡ part 0 0) ⊎ ((n : ℕ) × (0 < n) × (i + n ≤ length term) × (p ≡ part i n))
 
 some-nodes : (q : Pattern) → 0 < length (encₚ q)
 some-nodes (var v) = omega arith
 some-nodes (sym f ps) = omega arith
 
-shown : (table term : List ℕ) (i : ℕ) → Shown i (subterm table term i)
+shown : (table term : List ℕ) (i : ℕ) → Shown term i (subterm table term i)
 shown table term i = go (first (subtermRows table term)) refl (decLt i (length term))
   where
-    go : (o : Option Given) → first (subtermRows table term) ≡ o → Dec (i < length term) → Shown i (subterm table term i)
+    go : (o : Option Given) → first (subtermRows table term) ≡ o → Dec (i < length term) → Shown term i (subterm table term i)
     go (just r) e d = inl (no-subterm table term (ap accepted e) i)
-    go none e (yes l) = let s = subterms .found table term i e l in inr (length (encₚ (s .q)), some-nodes (s .q), s .handed-back)
+    go none e (yes l) =
+        let s = subterms .found table term i e l in
+        let n = length (encₚ (s .q)) in
+        inr (n, some-nodes (s .q), omega (arith, ap length (s .holds-it), length-take n (drop i term), length-drop i term), s .handed-back)
     go none e (no n) = inl (subterms .outside-part table term i (omega arith))
 
 -- LAW: so its count says which part it is
 pub subterm-decodes : (table : List ℕ) (term : Nodes) (i : ℕ) → Subterm table term i (subtermOf term i (countOf (subterm table (now term) i)))
 subterm-decodes table term i = go (subterm table (now term) i) (shown table (now term) i)
   where
-    go : (p : Part) → Shown i p → IsPart term (subtermOf term i (countOf p)) p
+    go : (p : Part) → Shown (now term) i p → IsPart term (subtermOf term i (countOf p)) p
     go p (inl e) = rw e (record { holds = refl; block = refl; offset = refl })
-    go p (inr (n, l, e)) = rw (e, ne-eqb n 0 (λ z. omega arith)) (record { holds = refl; block = refl; offset = refl })
+    go p (inr (n, l, m, e)) = rw (e, ne-eqb n 0 (λ z. omega arith)) (record { holds = refl; block = refl; offset = refl })
+
+-- LAW: and the list has so many nodes there
+pub subterm-inside : (table term : List ℕ) (i : ℕ) → 0 < countOf (subterm table term i) → i + countOf (subterm table term i) ≤ length term
+subterm-inside table term i = go (subterm table term i) (shown table term i)
+  where
+    go : (p : Part) → Shown term i p → 0 < countOf p → i + countOf p ≤ length term
+    go p (inl e) l = absurd (omega (arith, l, ap countOf e))
+    go p (inr (n, k, m, e)) l = omega (arith, m, ap countOf e)
 
 -- ---- the nearer by its number
+
+-- LAW: a candidate's number is 0, 1 or 2
+pub chosen-few : (which : Nearer) → chosen which ≤ 2
+chosen-few theFirst = omega arith
+chosen-few theSecond = omega arith
+chosen-few neither = omega arith
+
+-- LAW: .. and 0 where neither is chosen
+pub none-chosen : (which : Nearer) → chosen which ≡ 0 ↔ (which ≡ neither)
+none-chosen theFirst = (λ e. absurd (omega arith), λ e. ap chosen e)
+none-chosen theSecond = (λ e. absurd (omega arith), λ e. ap chosen e)
+none-chosen neither = (λ e. refl, λ e. refl)
 
 -- LAW
 pub nearer-decodes : (table heading : List ℕ) (one two : Nodes) → NearerTo table heading one two (nearerOf one two (chosen (nearer table heading (now one) (now two))))

@@ -8,6 +8,7 @@ use Rattle.theory.specs.Pairs.{Pair, pair}
 use Rattle.meaning.specs.Calls.{Answer, refused, gives, Yes, aye, isTable, symbolDegree, headingDegree, Degrees, degrees, lowestIn, highestIn, matched, matchCall, laterSpans, laterSets, written, laterOutput, arityBack, pairBack, subterm, nearer}
 use Rattle.meaning.specs.Tables.{writeCall}
 use Rattle.meaning.specs.Saved.{widenCall, widenedCount, laterWords}
+use Rattle.meaning.proofs.Parts.{nearest as meant-nearest}
 use Rattle.records.specs.Records.{listed}
 use Rattle.headings.specs.Terms.{Nodes, Subterm, Nearer}
 use Rattle.capi.specs.Answers.{coded, later, laterNumber}
@@ -15,14 +16,14 @@ use Rattle.capi.specs.Tables.{lowerOf, higherOf, degreeOf}
 use Rattle.capi.specs.Terms.{countOf, chosen}
 use Rattle.demands.specs.Program.{Promise}
 use Rattle.demands.specs.Public.{recordsOf}
-use Rattle.demands.specs.ForC.{Cell, CNumber, CCalls, CKept, answerOf, subtermOf, nearerOf, programOfC, Untouched, RefusedLeaves}
+use Rattle.demands.specs.ForC.{Cell, CNumber, CCalls, CKept, answerOf, subtermOf, nearerOf, programOfC, InRange, Untouched, RefusedLeaves}
 use Rattle.demands.specs.Demand1.{Demand1}
 use Rattle.demands.specs.Demand2.{Demand2}
 use Rattle.demands.specs.Demand3.{Demand3}
 use Rattle.demands.specs.Further.{Further}
 use Rattle.demands.proofs.Keeps.{keeps}
 use Rattle.demands.proofs.Public.{records-list}
-use Rattle.demands.proofs.Decoded.{Decodes, table-decodes, symbols-decode, headings-decode, match-decodes, writer-decodes, arity-decodes, pair-decodes, widen-decodes, subterm-decodes, nearer-decodes}
+use Rattle.demands.proofs.Decoded.{Decodes, table-decodes, symbols-decode, headings-decode, match-decodes, writer-decodes, arity-decodes, pair-decodes, widen-decodes, subterm-decodes, subterm-inside, nearer-decodes, chosen-few, none-chosen}
 
 -- a code and a number are read as the answer
 number-read : (c : Cell) {answer : Answer ℕ} {code : ℕ} → Decodes answer → code ≡ coded answer → c .after ≡ laterNumber answer (c .before) → answerOf code (c .after) ≡ answer
@@ -136,6 +137,18 @@ module _ (C : CCalls) (k : CKept C) where
             let is = inv (pairs-back table index) ∙ e in
             (untouched lowerOf _ is (p .leaves-lower), untouched higherOf _ is (p .leaves-higher), untouched degreeOf _ is (p .leaves-degree));
         widen = λ words output n place e. untouched (λ d. d) _ (inv (ap (λ w. w .answer) (widens words output)) ∙ e) (k .widen words output .written-later);
+      }
+
+  -- THEOREM: .. and counts and numbers are in range
+  pub c-in-range : InRange C
+  c-in-range =
+      record {
+        nodes = λ table term index l. rw (k .subterm table term index) (subterm-inside table term index (rw (k .subterm table term index) at l));
+        candidates = λ table heading one two. rw (k .nearer table heading one two) (chosen-few (nearer table heading one two));
+        neither = λ table heading one two.
+            let w = none-chosen (nearer table heading one two) in
+            let q = meant-nearest .neither-if table heading one two in
+            rw (k .nearer table heading one two) (λ e. q .0 (w .0 e), λ g. w .1 (q .1 g));
       }
 
 -- ---- the promises can be kept, whatever the numbers held

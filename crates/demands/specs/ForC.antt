@@ -1,14 +1,15 @@
 -- The calls for C as users run them: any codes, and any later contents of what was lent, that the promises of the exports allow. Read as the header
 -- says, they are a program, so that the demands are on them too.
 use mathlib.Core.Path.{_≡_}
+use mathlib.Core.Logic.{_↔_}
 use mathlib.Core.List.{List}
 use mathlib.Core.Bool.{cond}
-use Prim.Native.Nat.{ℕ, _+_, _*_, _/_, _%_}
+use Prim.Native.Nat.{ℕ, _+_, _*_, _/_, _%_, _≤_, _<_}
 use lib.Dec.{eqb}
-use lib.ListN.{take, drop}
+use lib.ListN.{length, take, drop}
 use denote.Ref.{now, ptr, name}
 use Rattle.theory.specs.Pairs.{Pair, pair}
-use Rattle.meaning.specs.Calls.{Answer, refused, gives, aye, degrees}
+use Rattle.meaning.specs.Calls.{Answer, refused, gives, aye, degrees, nearerRows}
 use Rattle.table.specs.declared.read.Pair.{Pair as Record}
 use Rattle.headings.specs.Terms.{Nodes}
 use Rattle.capi.specs.Tables.{ShxTable, ShxSymbolDegree, ShxArity, ShxPair}
@@ -17,6 +18,7 @@ use Rattle.capi.specs.Matching.{ShxMatch}
 use Rattle.capi.specs.Writing.{ShxWriteTable}
 use Rattle.capi.specs.Saving.{ShxWiden}
 use Rattle.demands.specs.Program.{Program}
+use Rattle.demands.specs.Demand1.{Refuses}
 use Rattle.demands.specs.Public.{recordsOf}
 
 -- ---- what the exports return and leave
@@ -95,6 +97,13 @@ subtermOf term index count = cond (eqb count 0) (partFrom term 0 0) (partFrom te
 -- The nearer by its number: the first candidate, the second, or the empty part at the first one's start.
 abbrev pub nearerOf : Nodes → Nodes → ℕ → Nodes
 nearerOf one two which = cond (eqb which 1) one (cond (eqb which 2) two (partFrom one 0 0))
+
+-- What is read so can be: the list has so many nodes from the index on; and no other number is returned for a candidate, 0 just where something is
+-- refused.
+pub record InRange (C : CCalls) : Type 0 where
+  pub nodes : (table term : List ℕ) (index : ℕ) → 0 < C .subterm table term index → index + C .subterm table term index ≤ length term
+  pub candidates : (table heading one two : List ℕ) → C .nearer table heading one two ≤ 2
+  pub neither : (table heading one two : List ℕ) → C .nearer table heading one two ≡ 0 ↔ Refuses (nearerRows table heading one two)
 
 abbrev pub programOfC : CCalls → Program
 programOfC C =
