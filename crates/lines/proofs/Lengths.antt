@@ -1,6 +1,6 @@
 -- No line has more bytes than there is room for: a number has at most five digits, and a set has no more symbols than it has room for. So an answer
 -- has at most as many bytes as all its lines have room for.
-use mathlib.Core.Path.{_≡_, sym, ap}
+use mathlib.Core.Path.{ap}
 use mathlib.Core.List.{List, [], _∷_, _++_, map}
 use mathlib.Core.Bool.{Bool, true, false, cond}
 use Prim.Native.Nat.{ℕ, zero, suc, _+_, _-_, _*_, _/_, _%_, _≤_, _<_}
@@ -18,7 +18,6 @@ use Rattle.refusal.specs.declared.Outcome.{Outcome}
 use Rattle.refusal.specs.declared.Outcome.the-variants.{Match, Refused}
 use Rattle.refusal.specs.Told.{told}
 use Rattle.refusal.specs.Outcomes.{resultOf}
-use Rattle.lines.specs.declared.line.Cursor.the-variants.{First}
 use Rattle.lines.specs.Lines.{lineRoom, textIn, outcomeLine, variableLine, symbolsLine, upward, following, positionsFrom, restAt, Spanned}
 use Rattle.lines.specs.Lengths.{mostPositions, mostSets, mostText}
 use Rattle.lines.proofs.Rest.{some-lines, no-lines, rest-start}

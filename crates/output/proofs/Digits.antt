@@ -1,8 +1,8 @@
 -- A number of 64 bits has at most twenty digits, since the least number that has one digit more is above all of them. The digits that the library
 -- spells, as many as the number has, are those that the meaning has where it allows that many or more.
 use mathlib.Core.Path.{_≡_, sym, ap, ap₂, subst, _∙_}
-use mathlib.Core.List.{List, [], _∷_, _++_}
-use Prim.Native.Nat.{ℕ, zero, suc, _+_, _-_, _*_, _/_, _%_, _^_, _≤_, _<_}
+use mathlib.Core.List.{[], _∷_, _++_}
+use Prim.Native.Nat.{ℕ, zero, suc, _+_, _-_, _/_, _%_, _^_, _≤_, _<_}
 use native.Mathlib.Nat.{pow-suc, one-le-pow, pow-le-pow-right}
 use native.Mathlib.Omega.{arith, by-contra}
 use borrow.Author.Tests.{lt-ltb}

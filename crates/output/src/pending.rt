@@ -1,6 +1,6 @@
 // Text to standard output, by way of a buffer.
 ghost use mathlib.Core.Path.{_≡_};
-ghost use Prim.Native.Nat.{_+_, _*_, _≤_, _<_};
+ghost use Prim.Native.Nat.{_+_, _≤_, _<_};
 ghost use lib.ListN.{length};
 ghost use Rattle.refusal.specs.Outcomes.{resultOf};
 ghost use Rattle.lines.specs.Lines.{lineRoom, textIn, Spanned};
@@ -18,13 +18,14 @@ pub enum Pending {
     Failed,
 }
 
-// Writes the first bytes of the buffer, all of them. That they were not taken is told.
+// Writes the first bytes of the buffer, and counts those that it handed over. That they were not taken is told.
 pub fn write_out(out: &[u8], used: usize) -> Pending
     requires { ⌜ used ≤ length (now out) ⌝ }
     ensures { λ r. ⌜ HandedOver used r ⌝ }
 {
-    if io::write_all(libc::STDOUT_FILENO, &out[..used]) {
-        return Pending::Bytes(used, 0);
+    let part = &out[..used];
+    if io::write_all(libc::STDOUT_FILENO, part) {
+        return Pending::Bytes(part.len(), 0);
     }
     os::fail(b"standard output");
     Pending::Failed

@@ -4,12 +4,12 @@ use borrow.Author.Needs.{needs}
 use borrow.Author.Tests.{not-true, not-false}
 use mathlib.Core.Path.{_≡_, refl, sym, ap, subst, _∙_}
 use mathlib.Core.Bool.{true, false, false≢true}
-use Prim.Native.Nat.{_+_, _≤_}
 use native.Mathlib.Omega.{arith}
 use lib.ListN.{length}
 use Rattle.lines.specs.declared.line.Cursor.{Cursor}
 use Rattle.lines.specs.declared.line.Cursor.the-variants.{First, Variable, Position, End}
 use Rattle.lines.specs.Lines.{restAt}
+use Rattle.output.specs.declared.pending.Pending.the-variants.{Bytes}
 use Rattle.output.specs.Pendings.{HandedOver, isOver}
 use Rattle.output.proofs.Going.{Going, going-none, going-more, going-less, going-over, going-failed, going-count}
 use Rattle.output.proofs.pending.put_answer.Statement.{statement}
@@ -49,12 +49,15 @@ write-out-requires c κs = let inv = c .before .before .before .loop .inv in ome
 enum-known-gone : tie.Need-enum-known-gone Inv-loop μ-loop
 enum-known-gone c = search needs
 
+-- where there is more to say, all that stood is handed over
+emptied : (c : tie.After-known-told Inv-loop μ-loop) → HandedOver (c .before .before .before .before .before .before .before .loop .end) (Bytes (c .before .gone .given .0 .0) (c .before .gone .given .0 .1 .0))
+emptied c = subst (HandedOver (c .before .before .before .before .before .before .before .loop .end)) (c .before .gone .given .1) (c .before .before .before .write-out .ensures)
+
+on-way : (c : tie.After-known-told Inv-loop μ-loop) → c .before .before .before .before .before .before .before .loop .cursor ≡ End → ⊥
+on-way c = not-over (sym (c .before .before .before .before .before .before .is-over .ensures) ∙ not-true _ (c .before .before .before .before .before .if1 .taken))
+
 fill-requires-2 : tie.Need-fill-requires-2 Inv-loop μ-loop
-fill-requires-2 c κs =
-    let loop = c .before .before .before .before .before .before .before .before .loop in
-    let given = c .before .before .gone .given in
-    let all = subst (HandedOver (loop .end)) (given .1) (c .before .before .before .before .write-out .ensures) in
-    (c .before .before .before .before .before .before .before .before .before .before .before .before .before .before .before .before .pre .0 .0, loop .inv .on, omega (arith, all .1))
+fill-requires-2 c κs = (c .before .before .before .before .before .before .before .before .before .before .before .before .before .before .before .before .pre .0 .0, c .before .before .before .before .before .before .before .before .loop .inv .on, omega (arith, emptied (c .before) .1))
 
 add-written : tie.Need-add-written Inv-loop μ-loop
 add-written c =
@@ -62,34 +65,26 @@ add-written c =
     let a = s .args in
     let first = c .before .before .before .before .before .before .before .before .before .before .before .before .before .before .fill in
     let loop = c .before .before .before .before .before .before .before .before .before .before .before .loop in
-    let given = c .before .before .before .before .before .gone .given in
-    let all = subst (HandedOver (loop .end)) (given .1) (c .before .before .before .before .before .before .before .write-out .ensures) in
     let few = going-count (a .outcome) (a .spans .now) (a .sets .now) (a .out .now) (a .used) (first .result) _ (first .ensures) (loop .written) (loop .end) (loop .cursor) (loop .out) (loop .inv) (s .pre .0 .0) (s .pre .0 .1) in
-    record { fits = omega (arith, few, all .0, s .pre .1 .0, s .good .1 .1 .1 .0 .1) }
+    record { fits = omega (arith, few, emptied (c .before .before .before .before) .0, s .pre .1 .0, s .good .1 .1 .1 .0 .1) }
 
 loop-less : tie.Need-loop-less Inv-loop μ-loop
 loop-less c =
     let s = c .before .before .before .before .before .before .before .before .before .before .before .before .before .before .before .before .before .before .before in
     let a = s .args in
-    let first = c .before .before .before .before .before .before .before .before .before .before .before .before .before .before .fill in
     let loop = c .before .before .before .before .before .before .before .before .before .before .before .loop in
-    let on-way = not-over (sym (c .before .before .before .before .before .before .before .before .before .before .is-over .ensures) ∙ not-true _ (c .before .before .before .before .before .before .before .before .before .if1 .taken)) in
-    let given = c .before .before .before .before .before .gone .given in
-    let all = subst (HandedOver (loop .end)) (given .1) (c .before .before .before .before .before .before .before .write-out .ensures) in
+    let told = c .before .before .before .before in
     let more = c .before .before .fill2 in
-    going-less (a .outcome) (a .spans .now) (a .sets .now) (loop .written) (loop .end) (loop .cursor) (loop .out) (loop .inv) on-way (given .0 .0) (given .0 .1 .0) (more .result) _ (omega (arith, s .pre .1 .1, first .kept .1 .1 .1 .1 .0)) all (more .ensures)
+    going-less (a .outcome) (a .spans .now) (a .sets .now) (loop .written) (loop .end) (loop .cursor) (loop .out) (loop .inv) (on-way told) _ _ (more .result) _ (omega (arith, s .pre .1 .1, c .before .before .before .before .before .before .before .before .before .before .before .before .before .before .fill .kept .1 .1 .1 .1 .0)) (emptied told) (more .ensures)
 
 loop-again : tie.Need-loop-again Inv-loop μ-loop
 loop-again c =
-    let s = c .before .before .before .before .before .before .before .before .before .before .before .before .before .before .before .before .before .before .before in
-    let a = s .args in
+    let a = c .before .before .before .before .before .before .before .before .before .before .before .before .before .before .before .before .before .before .before .args in
     let first = c .before .before .before .before .before .before .before .before .before .before .before .before .before .before .fill in
     let loop = c .before .before .before .before .before .before .before .before .before .before .before .loop in
-    let on-way = not-over (sym (c .before .before .before .before .before .before .before .before .before .before .is-over .ensures) ∙ not-true _ (c .before .before .before .before .before .before .before .before .before .if1 .taken)) in
-    let given = c .before .before .before .before .before .gone .given in
-    let all = subst (HandedOver (loop .end)) (given .1) (c .before .before .before .before .before .before .before .write-out .ensures) in
+    let told = c .before .before .before .before in
     let more = c .before .before .fill2 in
-    going-more (a .outcome) (a .spans .now) (a .sets .now) (loop .written) (loop .end) (loop .cursor) (loop .out) (loop .inv) on-way (given .0 .0) (given .0 .1 .0) (more .result) _ (omega (arith, first .ensures .put .inside, first .kept .1 .1 .1 .1 .0)) all (more .ensures)
+    going-more (a .outcome) (a .spans .now) (a .sets .now) (loop .written) (loop .end) (loop .cursor) (loop .out) (loop .inv) (on-way told) _ _ (more .result) _ (omega (arith, first .ensures .put .inside, first .kept .1 .1 .1 .1 .0)) (emptied told) (more .ensures)
 
 enum-told : tie.Need-enum-told Inv-loop μ-loop
 enum-told c = search needs

@@ -2,7 +2,6 @@
 use borrow.Author.Needs.{needs}
 use mathlib.Core.Path.{subst}
 use Prim.Native.Nat.{_+_, _<_}
-use native.Mathlib.Omega.{arith}
 use Rattle.output.specs.Pendings.{handed}
 use Rattle.output.proofs.pending.with_written.Statement.{statement}
 use Rattle.output.proofs.pending.with_written.Tie as tie

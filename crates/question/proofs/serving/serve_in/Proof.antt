@@ -15,7 +15,10 @@ slice-aggregate-put-answer : tie.Need-slice-aggregate-put-answer
 slice-aggregate-put-answer c = search needs
 
 put-answer-requires : tie.Need-put-answer-requires
-put-answer-requires c κs = search needs
+put-answer-requires c κs =
+    let s = c .before .before .before .before .before .before .before .before .before .before .before .before in
+    let found = c .before .before .before .before .before .before .answer in
+    ((found .ensures .spanned, omega (arith, s .pre .0 .1, found .kept .1 .1 .0)), s .pre .1)
 
 same-length : tie.Need-same-length
 same-length c = search needs
