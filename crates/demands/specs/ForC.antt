@@ -90,7 +90,7 @@ answerOf code a = cond (eqb code 0) (gives a) (refused (code % 65536) (code / 65
 abbrev pub partFrom : Nodes → ℕ → ℕ → Nodes
 partFrom list start count = record { ptr = (ptr list .0, ptr list .1 + 2 * start); name = name list; now = take count (drop start (now list)) }
 
--- A subterm by its number of nodes: they stand from the index on; where there are none, it is the empty part at the list's start.
+-- A subterm by its number of nodes: they stand from the index on; no nodes are the part of none where the list begins.
 abbrev pub subtermOf : Nodes → ℕ → ℕ → Nodes
 subtermOf term index count = cond (eqb count 0) (partFrom term 0 0) (partFrom term index count)
 
