@@ -112,15 +112,15 @@ widen-decodes words output = subst Decodes (kept .widen words output .answers) (
 
 -- ---- a subterm by its number of nodes
 
--- where something is handed back at all, it has nodes, begins at the index and ends within the list
-abbrev Shown : List ℕ → ℕ → Part → Type 0
+-- LAW: where something is handed back at all, it has nodes, begins at the index and ends within the list
+abbrev pub Shown : List ℕ → ℕ → Part → Type 0
 Shown term i p = (p ≡ part 0 0) ⊎ ((n : ℕ) × (0 < n) × (i + n ≤ length term) × (p ≡ part i n))
 
 some-nodes : (q : Pattern) → 0 < length (encₚ q)
 some-nodes (var v) = omega arith
 some-nodes (sym f ps) = omega arith
 
-shown : (table term : List ℕ) (i : ℕ) → Shown term i (subterm table term i)
+pub shown : (table term : List ℕ) (i : ℕ) → Shown term i (subterm table term i)
 shown table term i = go (first (subtermRows table term)) refl (decLt i (length term))
   where
     go : (o : Option Given) → first (subtermRows table term) ≡ o → Dec (i < length term) → Shown term i (subterm table term i)

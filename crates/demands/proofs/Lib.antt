@@ -40,3 +40,4 @@ pub mod Settled
 pub mod SettledFiles
 pub mod SettledMatch
 pub mod Settles
+pub mod SettledForC

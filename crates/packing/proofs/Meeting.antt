@@ -1,6 +1,6 @@
 -- Packing along the pattern's list: at a node that is a variable whose span is empty the variable comes next in the order, and is packed behind
 -- the others; any other node leaves all as it was. The heading has room for each variable, since it has for all of them.
-use mathlib.Core.Path.{_≡_, refl, sym as inv, ap, _∙_}
+use mathlib.Core.Path.{_≡_, sym as inv, ap, _∙_}
 use mathlib.Core.List.{List, [], _∷_, _++_, append-assoc, append-nil}
 use mathlib.Core.Bool.{Bool, true, false, cond}
 use Prim.Native.Nat.{ℕ, _+_, _*_, _≤_, _<_}
