@@ -1,9 +1,10 @@
 // The batch: each question stands behind its length, four bytes with the low byte first.
 ghost use mathlib.Core.Path.{_≡_};
-ghost use Prim.Native.Nat.{_+_, _*_, _≤_, _<_};
+ghost use Prim.Native.Nat.{_+_, _≤_, _<_};
 ghost use lib.ListN.{length};
-ghost use Rattle.meaning.specs.File.{number};
-ghost use Rattle.input.specs.Found.{Found};
+ghost use Rattle.input.specs.Coming.{lengthIn, Follows, Comes};
+ghost use Rattle.input.specs.Found.{FoundBy};
+ghost use Rattle.input.specs.Unreads.{unread};
 use crate::reading::read_until;
 use table::number::number_at;
 
@@ -20,51 +21,49 @@ pub enum Next {
 
 fn length_at(bytes: &[u8], at: usize) -> usize
     requires { ⌜ at + 3 < length (now bytes) ⌝ }
-    ensures { λ r. ⌜ r ≡ number (now (bytes .entry)) at + 65536 * number (now (bytes .entry)) (at + 2) ⌝ }
+    ensures { λ r. ⌜ r ≡ lengthIn (unread (now (bytes .entry)) at (at + 4)) ⌝ }
 {
     number_at(bytes, at) as usize + 65536 * number_at(bytes, at + 2) as usize
 }
 
-// Passes over so many bytes of the input.
+// Passes over a question that is too long, of so many bytes.
 fn pass_over(buffer: &mut [u8], at: usize, end: usize, count: usize) -> Next
-    requires { ⌜ (at ≤ end) × (end ≤ length (now buffer)) × (1 ≤ length (now buffer)) ⌝ }
-    ensures { λ r. ⌜ Found (length (now (buffer .entry))) r ⌝ }
+    requires { ⌜ (at ≤ end) × (end ≤ length (now buffer)) × (65535 ≤ length (now buffer)) × (65535 < count) ⌝ }
+    ensures { λ r. ⌜ FoundBy (Follows count) (now (buffer .entry)) at end r (now (buffer .exit)) ⌝ }
 {
     let mut from = at;
     let mut to = end;
     let mut left = count;
-    while left > 0 {
-        let unread = read_until(buffer, from, to, 1);
-        let there = unread.end - unread.at;
-        if there == 0 {
+    while left > to - from {
+        left -= to - from;
+        let unread = read_until(buffer, to, to, 1);
+        from = unread.at;
+        to = unread.end;
+        if from == to {
             return Next::CutOff;
         }
-        if there >= left {
-            return Next::TooLong(unread.at + left, unread.end);
-        }
-        left -= there;
-        from = unread.end;
-        to = unread.end;
     }
-    Next::TooLong(from, to)
+    let rest = from + left;
+    Next::TooLong(rest, to)
 }
 
 // A question of so many bytes that begins at `at`.
 fn whole_question(buffer: &mut [u8], at: usize, end: usize, count: usize) -> Next
-    requires { ⌜ (at ≤ end) × (end ≤ length (now buffer)) × (count ≤ length (now buffer)) ⌝ }
-    ensures { λ r. ⌜ Found (length (now (buffer .entry))) r ⌝ }
+    requires { ⌜ (at ≤ end) × (end ≤ length (now buffer)) × (65535 ≤ length (now buffer)) × (count ≤ 65535) ⌝ }
+    ensures { λ r. ⌜ FoundBy (Follows count) (now (buffer .entry)) at end r (now (buffer .exit)) ⌝ }
 {
     let unread = read_until(buffer, at, end, count);
     if unread.end - unread.at < count {
         return Next::CutOff;
     }
-    Next::Question(unread.at, unread.at + count, unread.end)
+    let rest = unread.at + count;
+    Next::Question(unread.at, rest, unread.end)
 }
 
 // What comes next in the batch. The bytes from `at` up to `end` are not used yet.
 pub fn next_question(buffer: &mut [u8], at: usize, end: usize) -> Next
     requires { ⌜ (at ≤ end) × (end ≤ length (now buffer)) × (65535 ≤ length (now buffer)) ⌝ }
-    ensures { λ r. ⌜ Found (length (now (buffer .entry))) r ⌝ }
+    ensures { λ r. ⌜ FoundBy Comes (now (buffer .entry)) at end r (now (buffer .exit)) ⌝ }
 {
     let unread = read_until(buffer, at, end, 4);
     let from = unread.at;
