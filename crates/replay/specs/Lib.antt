@@ -1,2 +1,3 @@
 -- Names that contracts use.
+pub mod Batches
 pub mod Turns

@@ -4,8 +4,9 @@ ghost use Prim.Native.Nat.{_≤_};
 ghost use lib.ListN.{length};
 ghost use Rattle.lines.specs.Lines.{lineRoom};
 ghost use Rattle.shape.specs.Rooms.{mostRoom};
+ghost use Rattle.input.specs.Unreads.{unread};
 ghost use Rattle.input.specs.Found.{Found};
-ghost use Rattle.replay.specs.Turns.{goOn, stopAt, Held};
+ghost use Rattle.replay.specs.Turns.{goOn, stopAt, MustWrite, TurnOf, TurnFrom, TurnsBy};
 use input::batch::Next;
 use input::batch::next_question;
 use output::pending::Pending;
@@ -32,7 +33,7 @@ fn go(at: usize, end: usize, pending: Pending) -> Turn
     ensures { λ r. ⌜ r ≡ goOn at end pending ⌝ }
 {
     match pending {
-        Pending::Bytes(_, used) => Turn::Go(at, end, used),
+        Pending::Bytes(_, standing) => Turn::Go(at, end, standing),
         Pending::Failed => Turn::Failed,
     }
 }
@@ -41,7 +42,7 @@ fn stop(pending: Pending) -> Turn
     ensures { λ r. ⌜ r ≡ stopAt pending ⌝ }
 {
     match pending {
-        Pending::Bytes(_, used) => Turn::Stop(used),
+        Pending::Bytes(_, standing) => Turn::Stop(standing),
         Pending::Failed => Turn::Failed,
     }
 }
@@ -57,7 +58,7 @@ fn answer_next(
 ) -> Turn
     requires { ⌜ Found (length (now buffer)) next ⌝ }
     requires { ⌜ (mostRoom ≤ length (now sets)) × (used ≤ length (now out)) × (lineRoom ≤ length (now out)) ⌝ }
-    ensures { λ r. ⌜ Held (length (now (buffer .entry))) (length (now (out .entry))) r ⌝ }
+    ensures { λ r. ⌜ TurnOf k next (now (buffer .entry)) (now (out .entry)) used r (now (out .exit)) ⌝ }
 {
     match next {
         Next::Ended => Turn::Stop(used),
@@ -69,6 +70,13 @@ fn answer_next(
             say_answer(k, &buffer[start..rest], sets, out, used),
         ),
     }
+}
+
+// Whether it has to wait for more bytes, and has something to write before.
+fn must_write(at: usize, end: usize, used: usize) -> bool
+    ensures { λ r. ⌜ MustWrite at end used r ⌝ }
+{
+    at == end && 0 < used
 }
 
 // One turn. Before it waits for more bytes it writes what it has, so that one who asks question by question is answered so too.
@@ -83,9 +91,9 @@ fn take_turn(
 ) -> Turn
     requires { ⌜ (at ≤ end) × (end ≤ length (now buffer)) × (65535 ≤ length (now buffer)) ⌝ }
     requires { ⌜ (mostRoom ≤ length (now sets)) × (used ≤ length (now out)) × (lineRoom ≤ length (now out)) ⌝ }
-    ensures { λ r. ⌜ Held (length (now (buffer .entry))) (length (now (out .entry))) r ⌝ }
+    ensures { λ r. ⌜ TurnFrom k (unread (now (buffer .entry)) at end) (at ≡ end) (now (buffer .exit)) (now (out .entry)) used r (now (out .exit)) ⌝ }
 {
-    match settle(out, used, at == end) {
+    match settle(out, used, must_write(at, end, used)) {
         Pending::Bytes(_, left) => {
             let next = next_question(buffer, at, end);
             answer_next(k, next, buffer, sets, out, left)
@@ -95,8 +103,9 @@ fn take_turn(
 }
 
 // Turn after turn, until the batch is over.
-fn answer_all(buffer: &mut [u8], sets: &mut [u64], out: &mut [u8])
+fn answer_all(buffer: &mut [u8], sets: &mut [u64], out: &mut [u8]) -> Turn
     requires { ⌜ (65535 ≤ length (now buffer)) × (mostRoom ≤ length (now sets)) × (lineRoom ≤ length (now out)) ⌝ }
+    ensures { λ r. ⌜ TurnsBy 18446744073709551615 (now (buffer .exit)) (now (out .entry)) r (now (out .exit)) ⌝ }
 {
     let mut turn = Turn::Go(0, 0, 0);
     for k in 0..u64::MAX {
@@ -104,20 +113,26 @@ fn answer_all(buffer: &mut [u8], sets: &mut [u64], out: &mut [u8])
             Turn::Go(at, end, used) => {
                 turn = take_turn(k, buffer, at, end, sets, out, used);
             }
-            Turn::Stop(left) => {
-                write_out(out, left);
-                return;
+            Turn::Stop(_) => {
+                return turn;
             }
             Turn::Failed => {
-                return;
+                return turn;
             }
         }
     }
+    turn
 }
 
 fn main() {
     let mut buffer = [0u8; ROOM];
     let mut sets = [0u64; MOST_ROOM];
     let mut out = io::large_buffer();
-    answer_all(&mut buffer, &mut sets, &mut out);
+    match answer_all(&mut buffer, &mut sets, &mut out) {
+        Turn::Go(_, _, _) => {}
+        Turn::Stop(left) => {
+            write_out(&out, left);
+        }
+        Turn::Failed => {}
+    }
 }

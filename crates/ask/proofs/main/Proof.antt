@@ -1,4 +1,4 @@
--- What is lent lies in the buffers.
+-- What still stands in the buffer lies in it.
 use borrow.Author.Needs.{needs}
 use native.Mathlib.Omega.{arith}
 use Rattle.output.proofs.Saying.{said-inside}
@@ -17,23 +17,17 @@ read-until-requires c κs = search needs
 large-buffer-requires-2 : tie.Need-large-buffer-requires-2
 large-buffer-requires-2 c κs = search needs
 
-sub-serve : tie.Need-sub-serve
-sub-serve c = search needs
+slice-aggregate-answer-read : tie.Need-slice-aggregate-answer-read
+slice-aggregate-answer-read c = search needs
 
-part-serve-start : tie.Need-part-serve-start
-part-serve-start c = search needs
+slice-aggregate-answer-read-2 : tie.Need-slice-aggregate-answer-read-2
+slice-aggregate-answer-read-2 c = search needs
 
-part-serve-end : tie.Need-part-serve-end
-part-serve-end c = search needs
+slice-aggregate-answer-read-3 : tie.Need-slice-aggregate-answer-read-3
+slice-aggregate-answer-read-3 c = search needs
 
-slice-aggregate-serve : tie.Need-slice-aggregate-serve
-slice-aggregate-serve c = search needs
-
-slice-aggregate-serve-2 : tie.Need-slice-aggregate-serve-2
-slice-aggregate-serve-2 c = search needs
-
-serve-requires : tie.Need-serve-requires
-serve-requires c κs = search needs
+answer-read-requires : tie.Need-answer-read-requires
+answer-read-requires c κs = search needs
 
 enum-known-used : tie.Need-enum-known-used
 enum-known-used c = search needs
@@ -43,8 +37,8 @@ slice-aggregate-write-out c = search needs
 
 write-out-requires : tie.Need-write-out-requires
 write-out-requires c κs =
-    let said = c .before .before .before .before .before .before .serve in
-    omega (arith, said-inside _ _ _ (said .result) _ (said .ensures .said) (c .before .before .used .given .1), said .kept .1 .1 .0)
+    let said = c .before .before .before .before .before .before .answer-read in
+    omega (arith, said-inside _ _ _ (said .result) _ (said .ensures) (c .before .before .used .given .1), said .kept .1 .1 .1 .0)
 
 enum-told : tie.Need-enum-told
 enum-told c = search needs
@@ -63,12 +57,10 @@ main-spec =
     slice-aggregate-read-until
     read-until-requires
     large-buffer-requires-2
-    sub-serve
-    part-serve-start
-    part-serve-end
-    slice-aggregate-serve
-    slice-aggregate-serve-2
-    serve-requires
+    slice-aggregate-answer-read
+    slice-aggregate-answer-read-2
+    slice-aggregate-answer-read-3
+    answer-read-requires
     enum-known-used
     slice-aggregate-write-out
     write-out-requires

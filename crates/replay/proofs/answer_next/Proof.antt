@@ -1,13 +1,14 @@
--- Each case of what comes next keeps the bounds of both buffers.
+-- By what comes next: what is said of it is its text, and the bytes behind it stay.
 use borrow.Author.Needs.{needs}
-use mathlib.Core.Path.{sym, subst}
+use mathlib.Core.Path.{refl, sym, ap, subst}
 use Prim.Native.Nat.{_≤_}
 use native.Mathlib.Omega.{arith}
 use denote.Ref.{now}
 use lib.ListN.{length}
-use Rattle.input.specs.Found.{Found}
-use Rattle.replay.specs.Turns.{Held}
-use Rattle.replay.proofs.Turning.{held-go, held-stop}
+use Rattle.input.specs.Found.{Found, foundIn}
+use Rattle.output.specs.declared.pending.Pending.the-variants.{Bytes}
+use Rattle.replay.specs.Batches.{turnText}
+use Rattle.replay.proofs.Turning.{answered-go, answered-stop, said-nothing}
 use Rattle.replay.proofs.answer_next.Statement.{statement}
 use Rattle.replay.proofs.answer_next.Tie as tie
 
@@ -41,10 +42,10 @@ found : (c : tie.After-known-told2) → let at = c .before .next2 .given .0 in
 found c = subst (Found _) (c .before .next2 .given .1) (c .before .before .before .before .before .before .pre .0)
 
 sub-say-answer : tie.Need-sub-say-answer
-sub-say-answer c = found c .0
+sub-say-answer c = omega (arith, found c)
 
 part-say-answer-start : tie.Need-part-say-answer-start
-part-say-answer-start c = found c .0
+part-say-answer-start c = omega (arith, found c)
 
 part-say-answer-end : tie.Need-part-say-answer-end
 part-say-answer-end c = omega (arith, found c)
@@ -56,27 +57,36 @@ go-requires-2 : tie.Need-go-requires-2
 go-requires-2 c κs = search needs
 
 returns : tie.Need-returns
-returns c = search needs
+returns c =
+    let s = c .before .before .before .before .before in
+    let a = s .args in
+    answered-stop (a .k) (a .next) (now (a .buffer)) (now (a .out)) (a .used) _ _ (sym (ap (foundIn _) (c .enum-told .given .1)))
+    (Bytes 0 (a .used)) _ refl tt (said-nothing (a .k) (now (a .out)) (a .used) (s .pre .1 .1))
 
 same-length : tie.Need-same-length
 same-length c = search needs
 
 returns-2 : tie.Need-returns-2
+unfolding turnText
 returns-2 c =
     let a = c .before .before .before .before .before .before .before .before .before .before .args in
     let said = c .before .before .before .say-cut-off in
-    subst (Held (length (now (a .buffer))) (length (now (a .out)))) (sym (c .stop .ensures)) (held-stop (length (now (a .buffer))) (now (a .out)) (a .used) _ (said .result) _ (said .ensures))
+    answered-stop (a .k) (a .next) (now (a .buffer)) (now (a .out)) (a .used) (said .last .1 .0) _ (sym (ap (foundIn _) (c .before .before .before .before .before .enum-told2 .given .1)))
+    (said .result) (c .stop .result) (c .stop .ensures) tt (said .ensures)
 
 same-length-2 : tie.Need-same-length-2
 same-length-2 c = search needs
 
 returns-3 : tie.Need-returns-3
+unfolding turnText
 returns-3 c =
+    let s = c .before .before .before .before .before .before .before .before .before .before .before in
+    let a = s .args in
     let at = c .before .before .before .before .before .before .next .given in
-    let next = subst (Found _) (at .1) (c .before .before .before .before .before .before .before .before .before .before .before .pre .0) in
-    let a = c .before .before .before .before .before .before .before .before .before .before .before .args in
+    let lies = subst (Found _) (at .1) (s .pre .0) in
     let said = c .before .before .before .say-too-long in
-    subst (Held (length (now (a .buffer))) (length (now (a .out)))) (sym (c .go .ensures)) (held-go (length (now (a .buffer))) (now (a .out)) (a .used) _ (at .0 .0) (at .0 .1 .0) (said .result) _ (next .0) (next .1) (said .ensures))
+    answered-go (a .k) (a .next) (now (a .buffer)) (now (a .out)) (a .used) (said .last .1 .0) _ (sym (ap (foundIn _) (at .1)))
+    (at .0 .0) (at .0 .1 .0) (said .result) (c .go .result) (c .go .ensures) (omega (arith, lies)) (omega (arith, lies)) refl (said .ensures)
 
 same-length-3 : tie.Need-same-length-3
 same-length-3 c = search needs
@@ -85,12 +95,14 @@ same-length-4 : tie.Need-same-length-4
 same-length-4 c = search needs
 
 returns-4 : tie.Need-returns-4
+unfolding turnText
 returns-4 c =
-    let next = found (c .before .before .before .before .before .before .before .before .before) in
-    let at = c .before .before .before .before .before .before .before .before .before .before .next2 .given .0 in
     let a = c .before .before .before .before .before .before .before .before .before .before .before .before .before .before .before .args in
+    let at = c .before .before .before .before .before .before .before .before .before .before .next2 .given in
+    let lies = found (c .before .before .before .before .before .before .before .before .before) in
     let said = c .before .before .before .before .before .say-answer in
-    subst (Held (length (now (a .buffer))) (length (now (a .out)))) (sym (c .go2 .ensures)) (held-go (length (now (a .buffer))) (now (a .out)) (a .used) _ (at .1 .0) (at .1 .1 .0) (said .result) _ (next .1) (next .2) (said .ensures))
+    answered-go (a .k) (a .next) (now (a .buffer)) (now (a .out)) (a .used) (said .last .1 .1 .1 .0) _ (sym (ap (foundIn _) (at .1)))
+    (at .0 .1 .0) (at .0 .1 .1 .0) (said .result) (c .go2 .result) (c .go2 .ensures) (omega (arith, lies)) (omega (arith, lies)) refl (said .ensures)
 
 pub answer-next-spec : {M : Type 1} → statement M
 answer-next-spec =
