@@ -17,7 +17,7 @@ use Rattle.output.proofs.Saying.{passed-none, passed-out, passed-then}
 use Rattle.replay.specs.declared.Turn.{Turn}
 use Rattle.replay.specs.declared.Turn.the-variants.{Go, Stop, Failed}
 use Rattle.replay.specs.Batches.{turnText, GoesOn, Stops, none, further}
-use Rattle.replay.specs.Turns.{goOn, stopAt, MustWrite, TurnFrom, TurnOf, TurnsBy}
+use Rattle.replay.specs.Turns.{goOn, stopAt, MustWrite, Answered, TurnFrom, TurnOf, TurnsBy}
 use Rattle.replay.proofs.Begins.{begun-more}
 
 module _ (k : ℕ) (next : Next) (buffer before : List ℕ) (used : ℕ) (after : List ℕ) (coming : Coming) (is : coming ≡ foundIn buffer next) where
@@ -59,21 +59,10 @@ module _ (at end : ℕ) (before : List ℕ) (used : ℕ) (inside : used ≤ leng
 
 module _ (k : ℕ) (bytes : List ℕ) (at end : ℕ) (buffer before : List ℕ) (used : ℕ) (next : Next) (more : List ℕ) (comes : Comes (bytes ++ more) (foundIn buffer next))
     (gone left : ℕ) (inside : used ≤ length before) (ready : Prepared at end before used gone left) where
-  -- LAW: the turn of what was found is one of the bytes in which it was found
-  pub turn-taken : (turn : Turn) (after : List ℕ) → TurnOf k next buffer before left turn after → TurnFrom k bytes (at ≡ end) buffer before used turn after
-  turn-taken (Go at′ end′ standing) after (l, m, r) = (
-    l,
-    m,
-    record {
-      next = r .next;
-      has = ((more, subst (Comes (bytes ++ more)) (sym (r .has .0)) comes), r .has .1);
-      written = gone + r .written;
-      passed = passed-then inside (ready .passed) (r .passed) refl;
-      first = λ e. omega (arith, ready .first e);
-      later = λ idle room. omega (arith, ready .stays idle, ready .passed .counted, r .later (λ never. absurd never) (omega (arith, ready .stays idle)));
-    },
-  )
-  turn-taken (Stop standing) after r = record {
+  -- what is said behind what stood is said of these bytes too, whatever else is known of what came
+  said-taken : {Also : Coming → Type 0} {standing : ℕ} {after : List ℕ} → Answered (λ coming. (coming ≡ foundIn buffer next) × Also coming) ⊥ k before left standing after
+      → Answered (λ coming. ((more : List ℕ) × Comes (bytes ++ more) coming) × Also coming) (at ≡ end) k before used standing after
+  said-taken r = record {
     next = r .next;
     has = ((more, subst (Comes (bytes ++ more)) (sym (r .has .0)) comes), r .has .1);
     written = gone + r .written;
@@ -81,6 +70,11 @@ module _ (k : ℕ) (bytes : List ℕ) (at end : ℕ) (buffer before : List ℕ) 
     first = λ e. omega (arith, ready .first e);
     later = λ idle room. omega (arith, ready .stays idle, ready .passed .counted, r .later (λ never. absurd never) (omega (arith, ready .stays idle)));
   }
+
+  -- LAW: the turn of what was found is one of the bytes in which it was found
+  pub turn-taken : (turn : Turn) (after : List ℕ) → TurnOf k next buffer before left turn after → TurnFrom k bytes (at ≡ end) buffer before used turn after
+  turn-taken (Go at′ end′ standing) after (l, m, r) = (l, m, said-taken {Also = λ coming. GoesOn coming (unread buffer at′ end′)} r)
+  turn-taken (Stop standing) after r = said-taken {Also = Stops} r
   turn-taken Failed after r = λ idle. record {
     next = r (λ never. absurd never) .next;
     has = (more, subst (Comes (bytes ++ more)) (sym (r (λ never. absurd never) .has)) comes);
