@@ -1,0 +1,68 @@
+-- The call's answer and its output, by what was found.
+use mathlib.Core.Path.{_≡_, refl, sym as inv, ap, _∙_}
+use mathlib.Core.List.{List, [], _∷_, _++_}
+use mathlib.Core.Option.{none, some as just, Option·some-ne-none}
+use Prim.Native.Nat.{ℕ, suc, _≤_, _<_}
+use native.Mathlib.Omega.{arith}
+use borrow.Author.Tests.{lt-ltb, le-ltb}
+use lib.ListN.{length, set, drop}
+use Rattle.meaning.specs.Refusals.{Refusal, refusal, Row, row, rowPlace, first, row8-output}
+use Rattle.meaning.specs.Calls.{Answer, unless}
+use Rattle.marc.specs.Known.{Known, knownIn, row19}
+use Rattle.marc.specs.Frame.{frameRows}
+use Rattle.marc.specs.Heading.{nameIn, datesIn, nodeOf, row20, row21, row22, headingRows, headingOf, headed, laterNodes}
+use Rattle.exchange.specs.Said.{told, said}
+use Rattle.exchange.specs.Looking.{recordRows, RecordLooks}
+use Rattle.exchange.specs.Heading.{ReadHeading}
+use Rattle.exchange.specs.declared.Fault.{Fault}
+use Rattle.exchange.specs.declared.Fault.the-variants.{List as ListFault, Room}
+use Rattle.exchange.specs.declared.Headed.the-variants.{Written, Refused}
+use Rattle.exchange.specs.declared.Looked.the-variants.{Nodes}
+
+-- three stores
+pub stored : (l : List ℕ) (a b c : ℕ) → 3 ≤ length l → set (set (set l 0 a) 1 b) 2 c ≡ (a ∷ b ∷ c ∷ []) ++ drop 3 l
+stored [] a b c m = absurd (omega arith)
+stored (x ∷ []) a b c m = absurd (omega arith)
+stored (x ∷ y ∷ []) a b c m = absurd (omega arith)
+stored (x ∷ y ∷ z ∷ l) a b c m = refl
+
+module _ (bytes text ends numbers : List ℕ) (heading absent : ℕ) (nodes : List ℕ) where
+  abbrev ks : List Known
+  ks = knownIn text ends numbers
+
+  -- LAW: a refusal that the rows give is the answer, and leaves the output
+  pub refuses : (why : Fault) → first (headingRows bytes ks heading absent nodes) ≡ just (told why) → ReadHeading bytes text ends numbers heading absent nodes (Refused why) nodes
+  unfolding headed laterNodes
+  refuses why e = record { answers = rw e; leaves = rw e }
+
+  silent : (o : Row) (rows : List Row) → rowPlace o ≡ none → first (o ∷ rows) ≡ first rows
+  silent (row n none) rows e = refl
+  silent (row n (just i)) rows e = absurd (Option·some-ne-none i e)
+
+  -- LAW: 19
+  pub bad-list : (entry : ℕ) → row19 ks absent ≡ row 19 (just entry) → first (headingRows bytes ks heading absent nodes) ≡ just (refusal 19 entry)
+  unfolding headingRows
+  bad-list entry e = rw e
+
+  module _ (list-fine : rowPlace (row19 ks absent) ≡ none) where
+    -- LAW: 8
+    pub no-room : length nodes < 3 → first (headingRows bytes ks heading absent nodes) ≡ just (refusal 8 0)
+    unfolding headingRows row8-output
+    no-room l = silent (row19 ks absent) (row8-output 3 nodes ∷ (frameRows bytes ++ (row20 bytes ∷ row21 bytes ∷ row22 ks bytes ∷ []))) list-fine ∙ rw (lt-ltb (length nodes) 3 l)
+
+    module _ (room : 3 ≤ length nodes) where
+      -- LAW: then the rows of the record
+      pub rows-left : first (headingRows bytes ks heading absent nodes) ≡ first (recordRows bytes ks)
+      unfolding headingRows row8-output recordRows
+      rows-left = silent (row19 ks absent) (row8-output 3 nodes ∷ (frameRows bytes ++ (row20 bytes ∷ row21 bytes ∷ row22 ks bytes ∷ []))) list-fine ∙ rw (le-ltb (length nodes) 3 room)
+
+      -- LAW: no row holds: the three nodes
+      pub writes : (name dates : ℕ) → RecordLooks bytes ks absent (Nodes name dates)
+          → ReadHeading bytes text ends numbers heading absent nodes Written (set (set (set nodes 0 heading) 1 name) 2 dates)
+      unfolding headed laterNodes headingOf
+      writes name dates h =
+          let e = rows-left ∙ h .0 in
+          record { answers = rw e; leaves = stored nodes heading name dates room ∙ go e }
+        where
+          go : first (headingRows bytes ks heading absent nodes) ≡ none → (heading ∷ name ∷ dates ∷ []) ++ drop 3 nodes ≡ laterNodes bytes ks heading absent nodes
+          go e = rw (e, h .1, h .2)

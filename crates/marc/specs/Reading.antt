@@ -1,0 +1,101 @@
+-- What is said of records and their headings. Statements; the proofs are in proofs/.
+use mathlib.Core.Path.{_≡_}
+use mathlib.Core.List.{List, [], _∷_, _++_}
+use mathlib.Core.Bool.{false, cond}
+use mathlib.Core.Option.{Option, none, some as just}
+use Prim.Native.Nat.{ℕ, _+_, _*_, _-_, _≤_, _<_}
+use lib.Dec.{eqb}
+use lib.ListN.{length, getD, drop}
+use Rattle.theory.specs.Least.{All}
+use Rattle.theory.specs.Pairs.{pair, isPair}
+use Rattle.meaning.specs.File.{symbolCount, pairCount, pairsIn}
+use Rattle.meaning.specs.Refusals.{first, SoundFile}
+use Rattle.meaning.specs.Calls.{Answer, Yes, aye, refused, gives, symbolDegree}
+use Rattle.meaning.specs.Demands.{Exactly}
+use Rattle.marc.specs.Frame.{Field, field, fieldMark, recordMark, baseAddress, entryCount, fieldAt, fieldLength, fieldEnd, fieldsIn, frameRows}
+use Rattle.marc.specs.Subfields.{subfieldMark, subfield}
+use Rattle.marc.specs.Known.{Known, stringOf, numberOf, entryOf}
+use Rattle.marc.specs.Heading.{tag100, codeA, codeD, headingRows}
+use Rattle.marc.specs.Plain.{Holds, tagOf, recordOf, Subfield, coded, FineSubfield, Unmarked, subfieldsBytes}
+
+-- ---- the frame
+
+-- Records as one writes them pass the frame's tests, and are read as the fields that were written, in that order.
+abbrev pub ReadsPlain : Type 0
+ReadsPlain = (one two : List ℕ) (fs : List Field) → Holds one two fs → (first (frameRows (recordOf one two fs)) ≡ none) × (fieldsIn (recordOf one two fs) ≡ fs)
+
+-- Of any record that passes: its length, and that each field lies between the base address and the last byte, with its 1E.
+pub record FieldStands (r : List ℕ) (e : ℕ) : Type 0 where
+  pub behind : baseAddress r ≤ fieldAt r e
+  pub not-empty : 0 < fieldLength r e
+  pub before-last : fieldEnd r e < length r
+  pub ended : getD r (fieldEnd r e - 1) 0 ≡ fieldMark
+
+pub record Framed (r : List ℕ) : Type 0 where
+  pub base-inside : baseAddress r < length r
+  pub directory-fits : baseAddress r ≡ 25 + 12 * entryCount r
+  pub directory-ended : getD r (baseAddress r - 1) 0 ≡ fieldMark
+  pub each : (e : ℕ) → e < entryCount r → FieldStands r e
+  pub ended : getD r (length r - 1) 0 ≡ recordMark
+
+-- ---- fields and subfields
+
+-- The field at index i is the first with that tag.
+pub record FirstWith (tag : List ℕ) (fs : List Field) (content : List ℕ) : Type 0 where
+  pub index : ℕ
+  pub inside : index < length fs
+  pub is : getD fs index (field [] []) ≡ field tag content
+  pub none-before : (k : ℕ) → k < index → tagOf (getD fs k (field [] [])) ≡ tag → ⊥
+
+-- Subfields are read as they were written: of a field's subfields, behind two indicators and bytes without a 1F, the first with a code.
+abbrev pub firstCoded : ℕ → List Subfield → Option (List ℕ)
+firstCoded code [] = none
+firstCoded code (coded c text ∷ ss) = cond (eqb c code) (just text) (firstCoded code ss)
+
+abbrev pub ReadsSubfields : Type 0
+ReadsSubfields = (i j code : ℕ) (junk : List ℕ) (ss : List Subfield) → (code ≡ subfieldMark → ⊥) → Unmarked junk → All FineSubfield ss
+    → subfield code (i ∷ j ∷ (junk ++ subfieldsBytes ss)) ≡ firstCoded code ss
+
+-- ---- the heading
+
+-- The number of a string: some entry has that very string, byte for byte, and no other entry does.
+pub record Listed (ks : List Known) (string : List ℕ) (number : ℕ) : Type 0 where
+  pub index : ℕ
+  pub inside : index < length ks
+  pub same-bytes : stringOf (entryOf ks index) ≡ string
+  pub number-is : numberOf (entryOf ks index) ≡ number
+  pub only : (k : ℕ) → k < length ks → stringOf (entryOf ks k) ≡ string → k ≡ index
+
+-- A node for dates: the absent number where there are none, else their own.
+abbrev pub DatesNode : List Known → ℕ → Option (List ℕ) → ℕ → Type 0
+DatesNode ks absent none node = node ≡ absent
+DatesNode ks absent (just string) node = Listed ks string node
+
+-- The three nodes of a record that is not refused.
+pub record Heads (r : List ℕ) (ks : List Known) (heading absent : ℕ) (nodes : List ℕ) : Type 0 where
+  pub content : List ℕ
+  pub name : List ℕ
+  pub nameNode : ℕ
+  pub datesNode : ℕ
+  pub first-100 : FirstWith tag100 (fieldsIn r) content
+  pub name-is : subfield codeA content ≡ just name
+  pub name-listed : Listed ks name nameNode
+  pub dates-are : DatesNode ks absent (subfield codeD content) datesNode
+  pub nodes-are : nodes ≡ heading ∷ nameNode ∷ datesNode ∷ []
+
+-- What a call gives: its answer and what the output holds later.
+pub record HeadedBy : Type 0 where
+  pub answer : Answer Yes
+  pub output : List ℕ
+
+pub record HeadsCall (r : List ℕ) (ks : List Known) (heading absent : ℕ) (output : List ℕ) (given : HeadedBy) : Type 0 where
+  pub refuses : Exactly (headingRows r ks heading absent output) (given .answer)
+  pub refusal-leaves : (n place : ℕ) → given .answer ≡ refused n place → given .output ≡ output
+  pub three-nodes : given .answer ≡ gives aye → (nodes : List ℕ) × Heads r ks heading absent nodes × (given .output ≡ nodes ++ drop 3 output)
+
+-- Absent dates are never the same as given ones: their nodes differ, and so in any table their degree is what a listed pair says, else 0.
+pub record AbsentApart (ks : List Known) (absent : ℕ) : Type 0 where
+  pub nodes-differ : (string : List ℕ) (node : ℕ) → Listed ks string node → node ≡ absent → ⊥
+  pub unless-listed : (table string : List ℕ) (node : ℕ) → SoundFile table → absent < symbolCount table → node < symbolCount table → Listed ks string node
+      → ((k l h d : ℕ) → k < pairCount table → getD (pairsIn table) k (pair 0 0 0) ≡ pair l h d → isPair l h absent node ≡ false)
+      → symbolDegree table absent node ≡ gives 0
