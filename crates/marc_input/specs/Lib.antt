@@ -1,0 +1,4 @@
+-- Names that contracts use.
+pub mod Rests
+pub mod Passing
+pub mod Cuts
