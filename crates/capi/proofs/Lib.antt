@@ -4,6 +4,7 @@ pub mod Matched
 pub mod Parts
 pub mod Written
 pub mod OneCapi
+pub mod Wide
 pub mod Tied
 -- for the proof by hand
 mod Types

@@ -1,20 +1,25 @@
 -- The promise of each export allows one result and one later content of all that is lent: each of its parts is an equation whose right side has
--- nothing of the result. And a code tells the refusal: its number is in the low 16 bits, its place in those above.
-use mathlib.Core.Path.{_≡_, sym, _∙_}
+-- nothing of the result. And a code tells the refusal: its number is in the low 16 bits, its place in those above, of 32 bits or of 64.
+use mathlib.Core.Path.{_≡_, refl, sym, subst, _∙_}
 use mathlib.Core.List.{List}
-use Prim.Native.Nat.{ℕ, _<_, _/_, _%_}
+use Prim.Native.Nat.{ℕ, _≤_, _<_, _/_, _%_}
 use native.Mathlib.Omega.{arith}
 use Rattle.meaning.specs.Refusals.{Refusal as Given, refusal, numberOf, placeOf}
 use Rattle.refusal.specs.Told.{told}
 use Rattle.refusal.specs.declared.Refusal.{Refusal}
 use Rattle.refusal.specs.declared.Refusal.the-variants.{Layout, Counts, Arity, Pair as BadPair, Cut, Pattern, Heading, Room, Clash, NoForm, Misshapen, NoSymbol, Absent}
 use Rattle.table.specs.declared.read.Pair.{Pair}
+use Rattle.exchange.specs.Said.{told as fault-told}
+use Rattle.exchange.specs.declared.Fault.{Fault}
+use Rattle.exchange.specs.declared.Fault.the-variants.{List as BadEntry, Room as NoRoom, Frame, NoField, NoName, UnlistedName, UnlistedDates}
 use Rattle.capi.specs.Answers.{codeOf}
 use Rattle.capi.specs.Tables.{ShxTable, ShxSymbolDegree, ShxArity, ShxPair}
 use Rattle.capi.specs.Terms.{ShxHeadingDegree, ShxSubterm, ShxNearer}
 use Rattle.capi.specs.Matching.{ShxMatch}
 use Rattle.capi.specs.Writing.{ShxWriteTable}
 use Rattle.capi.specs.Saving.{ShxWiden}
+use Rattle.capi.specs.Marc.{highestPlace, wideCode, ShxMarcHeading}
+use Rattle.capi.proofs.Wide.{told-itself}
 
 -- THEOREM: any two results that a promise allows are equal, and so is what they leave
 module _ (table : List ℕ) where
@@ -62,6 +67,10 @@ pub one-widen : (words output : List ℕ) (written r s : ℕ) (u v : List ℕ) (
 one-widen words output written r s u v d e p q =
     (p .answers ∙ sym (q .answers), p .output-later ∙ sym (q .output-later), p .written-later ∙ sym (q .written-later))
 
+pub one-marc-heading : (bytes text ends numbers : List ℕ) (heading absent : ℕ) (nodes : List ℕ) (r s : ℕ) (u v : List ℕ)
+    → ShxMarcHeading bytes text ends numbers heading absent nodes r u → ShxMarcHeading bytes text ends numbers heading absent nodes s v → (r ≡ s) × (u ≡ v)
+one-marc-heading bytes text ends numbers heading absent nodes r s u v p q = (p .answers ∙ sym (q .answers), p .leaves ∙ sym (q .leaves))
+
 -- ---- a code tells the refusal
 
 pub record Tells (code : ℕ) (g : Given) : Type 0 where
@@ -90,3 +99,21 @@ numbered Absent = (omega arith, omega arith)
 -- THEOREM: a refusal's code is not 0, and has its number and its place
 pub code-tells : (why : Refusal) → Tells (codeOf (told why)) (told why)
 code-tells why = tells (told why) (numbered why .0) (numbered why .1)
+
+-- ---- and so does a code of 64 bits
+
+fault-numbered : (why : Fault) → (0 < numberOf (fault-told why)) × (numberOf (fault-told why) < 65536)
+fault-numbered (BadEntry entry) = (omega arith, omega arith)
+fault-numbered NoRoom = (omega arith, omega arith)
+fault-numbered (Frame byte) = (omega arith, omega arith)
+fault-numbered NoField = (omega arith, omega arith)
+fault-numbered NoName = (omega arith, omega arith)
+fault-numbered UnlistedName = (omega arith, omega arith)
+fault-numbered UnlistedDates = (omega arith, omega arith)
+
+tells-wide : (g : Given) → 0 < numberOf g → numberOf g < 65536 → placeOf g ≤ highestPlace → Tells (wideCode g) g
+tells-wide (refusal n place) l m h = subst (λ p. Tells (codeOf (refusal n p)) (refusal n place)) (told-itself place place refl h) (tells (refusal n place) l m)
+
+-- THEOREM: the code of a refused record is not 0, and has the refusal's number and its place, where 48 bits tell it
+pub wide-code-tells : (why : Fault) → placeOf (fault-told why) ≤ highestPlace → Tells (wideCode (fault-told why)) (fault-told why)
+wide-code-tells why = tells-wide (fault-told why) (fault-numbered why .0) (fault-numbered why .1)

@@ -7,6 +7,7 @@ use Rattle.capi.specs.Terms.{ShxHeadingDegree, ShxSubterm, ShxNearer}
 use Rattle.capi.specs.Matching.{ShxMatch}
 use Rattle.capi.specs.Writing.{ShxWriteTable}
 use Rattle.capi.specs.Saving.{ShxWiden}
+use Rattle.capi.specs.Marc.{ShxMarcHeading}
 use Rattle.capi.proofs.files.shx_table as table
 use Rattle.capi.proofs.files.shx_table.Symbol as table-code
 use Rattle.capi.proofs.files.shx_table.Met as table-proof
@@ -37,6 +38,9 @@ use Rattle.capi.proofs.writing.shx_write_table.Met as write-table-proof
 use Rattle.capi.proofs.saving.shx_widen as widen
 use Rattle.capi.proofs.saving.shx_widen.Symbol as widen-code
 use Rattle.capi.proofs.saving.shx_widen.Met as widen-proof
+use Rattle.capi.proofs.heading.shx_marc_heading as marc-heading
+use Rattle.capi.proofs.heading.shx_marc_heading.Symbol as marc-heading-code
+use Rattle.capi.proofs.heading.shx_marc_heading.Met as marc-heading-proof
 
 -- THEOREM: each export ensures its promise
 pub table-ensures : {M : Type 1} → Ensures table.ended table-code.routine (λ κs a r s. ShxTable (now (a .0)) r) M
@@ -68,3 +72,6 @@ write-table-ensures = write-table-proof.met
 
 pub widen-ensures : {M : Type 1} → Ensures widen.ended widen-code.routine (λ κs a r s. ShxWiden (now (a .0)) (now (a .1 .0)) (now (a .1 .1 .0)) r (now (s .1 .0)) (now (s .1 .1 .0))) M
 widen-ensures = widen-proof.met
+
+pub marc-heading-ensures : {M : Type 1} → Ensures marc-heading.ended marc-heading-code.routine (λ κs a r s. ShxMarcHeading (now (a .0)) (now (a .1 .0)) (now (a .1 .1 .0)) (now (a .1 .1 .1 .0)) (a .1 .1 .1 .1 .0) (a .1 .1 .1 .1 .1 .0) (now (a .1 .1 .1 .1 .1 .1 .0)) r (now (s .1 .1 .1 .1 .1 .1 .0))) M
+marc-heading-ensures = marc-heading-proof.met

@@ -5,3 +5,4 @@ pub mod Terms
 pub mod Matching
 pub mod Writing
 pub mod Saving
+pub mod Marc
