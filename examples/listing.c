@@ -2,7 +2,7 @@
  * Writes table T, matches the pattern 0 x0 x0 with the heading 0 1 5 2 6 at cut 600, and prints what may stand for x0:
  *
  *     match 600 700
- *     x0 2
+ *     x0 2 600 700
  *     3 4
  *     7
  *

@@ -18,10 +18,11 @@
  *
  * WHAT A CALL RETURNS
  *
- * Most calls return one uint32_t. 0: accepted. Otherwise the low 16 bits are the number of the refusal and the high 16 bits the place:
- * SHX_NUMBER(r) and SHX_PLACE(r). What else a call gives it stores through its pointers; a call that is refused leaves them untouched, but for
- * shx_match, as said there. The tests are made in the order of this table, and the first that holds is given (1 twice: a file shorter than a
- * header is refused by 1 before all else, wrong offsets or lengths after 2).
+ * Most calls return one uint32_t; shx_marc_heading returns a uint64_t, since a place in a record can be above 65,535. 0: accepted. Otherwise the
+ * low 16 bits are the number of the refusal and all bits above them the place: SHX_NUMBER(r) and SHX_PLACE(r), for either width. What else a call
+ * gives it stores through its pointers; a call that is refused leaves them untouched, but for shx_match, as said there. The tests are made in the
+ * order of this table, and the first that holds is given (1 twice: a file shorter than a header is refused by 1 before all else, wrong offsets or
+ * lengths after 2; and shx_marc_heading tests for 19 before all else).
  *
  *   No.  Refused because                                                      Place                              By
  *    1   the table has under 10 bytes; or an offset or a length in its        0                                  every call with a table
@@ -35,11 +36,17 @@
  *    6   the pattern is no term; or the first heading is no heading           the fault, see below               shx_match; shx_heading_degree
  *    7   the heading, or the second one, is no heading                        the fault, see below               shx_match; shx_heading_degree
  *    8   spans or sets are too short; the output is shorter than what is      0                                  shx_match; shx_write_table;
- *        to be written; the saved words are not of whole sets                                                    shx_widen
+ *        to be written; the saved words are not of whole sets                                                    shx_widen; shx_marc_heading
  *    9   a symbol of the pattern is not near enough to the one it faces       the first such node's index        shx_match
  *   10   no one term is near enough to all that faces some variable           the least such variable's number   shx_match
  *   13   one of the two numbers is no symbol of the table                     0 for the first, else 1            shx_symbol_degree
  *   14   no symbol has that number, or no pair that index                     0                                  shx_arity; shx_pair
+ *   17   the record's frame has a fault                                       the byte, see shx_marc_heading     shx_marc_heading
+ *   19   a known string is listed a second time, or it has the number that    the first such entry, from 0; of   shx_marc_heading
+ *        says that there are no dates                                         two equal strings the later
+ *   20   the record has no 100 field                                          0                                  shx_marc_heading
+ *   21   its first 100 field has no name                                      0                                  shx_marc_heading
+ *   22   the name is not listed, or the dates are there and not listed        0 for the name, 1 for the dates    shx_marc_heading
  *
  * The place of a fault in a list of nodes: 1024 where the list has more nodes than that; otherwise the first index at which the term had already
  * ended, a node stands that may not stand there, or the depth would be 65; and the list's length where the term is not complete.
@@ -63,9 +70,9 @@
 #include <stddef.h>
 #include <stdint.h>
 
-/* the number and the place of what a call returned; number 0: accepted */
+/* The number and the place of what a call returned; number 0: accepted. The place has the type of what was returned, uint32_t or uint64_t. */
 #define SHX_NUMBER(r) ((uint16_t)((r) & 0xFFFFu))
-#define SHX_PLACE(r) ((uint16_t)((r) >> 16))
+#define SHX_PLACE(r) ((r) >> 16)
 
 /* the node of variable v, 0 to 31 */
 #define SHX_VARIABLE(v) ((uint16_t)(32768u + (v)))
@@ -151,6 +158,42 @@ uint32_t shx_write_table(
  * as they are. Refusal 8, which changes nothing, where words_len is no multiple of SHX_SAVED_WORDS, or out_len below twice words_len.
  */
 uint32_t shx_widen(const uint64_t *words, size_t words_len, uint64_t *out, size_t out_len, size_t *written);
+
+/*
+ * Reads an authority record of MARC 21, in the frame of ISO 2709, and writes its heading: `heading`, the number of the name, the number of the
+ * dates. These three go to the front of nodes; what nodes has behind them stays.
+ *
+ * The name is the text of the first subfield a in the first 100 field, the dates that of the first subfield d in the same field; the first field is
+ * the one that the directory has first, wherever it stands. Where there is no subfield d the third node is `absent`. What stands between the two
+ * indicators and the first 1F is passed over; a 1F opens a subfield by the byte behind it. Texts are taken as they are: a closing comma counts.
+ *
+ * Known strings: they stand in text one behind the other. String j has the bytes from ends[j - 1], or from 0 for the first, up to before ends[j]; its
+ * number is numbers[j]. There are as many strings as the shorter of ends and numbers has entries. What would lie behind the last byte of text is
+ * not there, and an end below its beginning gives the empty string; so every such list can be read. A text has the number of the string that has
+ * the same bytes and as many.
+ *
+ * Refusals, tested in this order, each of which changes nothing:
+ *   19   at the first entry whose string stands before it too, or whose number is `absent`;
+ *    8   nodes_len is below 3;
+ *   17   at the first byte of what is wrong, which is the first of these: the record has under 26 bytes (place 0); its length, bytes 0 to 4, is not
+ *        record_len; its base address, bytes 12 to 16, is not 25 + 12 for each entry, or not below the length; in an entry, each in turn, the
+ *        field's length is 0, or its start is such that the field does not end before the record's last byte; no 1E stands before the base
+ *        address; no 1E ends a field, in the directory's order; the last byte is not 1D. A number that is not of digits alone is wrong;
+ *   20   no 100 field;
+ *   21   no subfield a in it;
+ *   22   the name is not listed (0), the dates are not (1).
+ * A place above 2^48 - 1, in a list that no memory holds, would be told as 2^48 - 1.
+ *
+ * No table is lent: whether `heading` is a symbol with two arguments, and the other numbers are symbols too, is found by the calls that take the
+ * nodes as a heading.
+ *
+ * The time grows with the record's bytes, and with the list, which every call tests. Best are strings that rise (byte by byte; one that ends first
+ * stands first): then the test is one walk over the list, and a text is sought by halving. In any other order the test grows with the square of the
+ * number of strings, and a text is sought by one walk.
+ */
+uint64_t shx_marc_heading(
+    const uint8_t *record, size_t record_len, const uint8_t *text, size_t text_len, const uint32_t *ends, size_t ends_len, const uint16_t *numbers,
+    size_t numbers_len, uint16_t heading, uint16_t absent, uint16_t *nodes, size_t nodes_len);
 
 #ifdef __cplusplus
 }
