@@ -9,13 +9,13 @@ ghost use Rattle.marc.specs.Known.{knownIn, row19};
 ghost use Rattle.exchange.specs.Said.{told};
 ghost use Rattle.exchange.specs.Looking.{PartIs, FieldLooks, RecordLooks};
 ghost use Rattle.exchange.specs.Heading.{ReadHeading};
+use known_strings::Sought;
+use known_strings::check_list;
+use known_strings::number_of;
 use marc_record::fields::Span;
 use marc_record::fields::find_100;
 use marc_record::fields::find_text;
 use marc_record::frame::check_frame;
-use known_strings::Sought;
-use known_strings::check_list;
-use known_strings::number_of;
 use table::rules::Place;
 
 // Why no heading is read.

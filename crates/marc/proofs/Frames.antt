@@ -48,6 +48,7 @@ framed r e =
     let low = ltb-false (baseAddress r) 25 (u .1) in
     let twelve = eqb-true ((baseAddress r - 25) % 12) 0 (not-false _ (t .1)) in
     record {
+      base-digits = not-false _ (u .0);
       base-inside = ltb-true (baseAddress r) (length r) (not-false _ (s .1));
       directory-fits = omega (arith, low, twelve);
       directory-ended = is-marked r (baseAddress r - 1) fieldMark (q .1 .1 .1 .1 .0);
@@ -61,6 +62,8 @@ framed r e =
         let long = both-false (not (digitsAt r (entryAt e + 3) 4)) (eqb (fieldLength r e) 0) (at-none (entryAt e + 3) (badFieldLength r e) (o .0)) in
         let start = both-false (not (digitsAt r (entryAt e + 7) 5)) (not (ltb (fieldEnd r e) (length r))) (at-none (entryAt e + 7) (badFieldStart r e) (o .1)) in
         record {
+          length-digits = not-false _ (long .0);
+          start-digits = not-false _ (start .0);
           behind = omega arith;
           not-empty = above (fieldLength r e) (long .1);
           before-last = ltb-true (fieldEnd r e) (length r) (not-false _ (start .1));

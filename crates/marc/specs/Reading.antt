@@ -1,7 +1,7 @@
 -- What is said of records and their headings. Statements; the proofs are in proofs/.
 use mathlib.Core.Path.{_≡_}
 use mathlib.Core.List.{List, [], _∷_, _++_}
-use mathlib.Core.Bool.{false, cond}
+use mathlib.Core.Bool.{true, false, cond}
 use mathlib.Core.Option.{Option, none, some as just}
 use Prim.Native.Nat.{ℕ, _+_, _*_, _-_, _≤_, _<_}
 use lib.Dec.{eqb}
@@ -12,7 +12,7 @@ use Rattle.meaning.specs.File.{symbolCount, pairCount, pairsIn}
 use Rattle.meaning.specs.Refusals.{first, SoundFile}
 use Rattle.meaning.specs.Calls.{Answer, Yes, aye, refused, gives, symbolDegree}
 use Rattle.meaning.specs.Demands.{Exactly}
-use Rattle.marc.specs.Frame.{Field, field, fieldMark, recordMark, baseAddress, entryCount, fieldAt, fieldLength, fieldEnd, fieldsIn, frameRows}
+use Rattle.marc.specs.Frame.{Field, field, fieldMark, recordMark, digitsAt, baseAddress, entryCount, entryAt, fieldAt, fieldLength, fieldEnd, fieldsIn, frameRows}
 use Rattle.marc.specs.Subfields.{subfieldMark, subfield}
 use Rattle.marc.specs.Known.{Known, stringOf, numberOf, entryOf}
 use Rattle.marc.specs.Heading.{tag100, codeA, codeD, headingRows}
@@ -24,14 +24,17 @@ use Rattle.marc.specs.Plain.{Holds, tagOf, recordOf, Subfield, coded, Fi
 abbrev pub ReadsPlain : Type 0
 ReadsPlain = (one two : List ℕ) (fs : List Field) → Holds one two fs → (first (frameRows (recordOf one two fs)) ≡ none) × (fieldsIn (recordOf one two fs) ≡ fs)
 
--- Of any record that passes: its length, and that each field lies between the base address and the last byte, with its 1E.
+-- Of any record that passes: its numbers are digits, and each field lies between the base address and the last byte, with its 1E.
 pub record FieldStands (r : List ℕ) (e : ℕ) : Type 0 where
+  pub length-digits : digitsAt r (entryAt e + 3) 4 ≡ true
+  pub start-digits : digitsAt r (entryAt e + 7) 5 ≡ true
   pub behind : baseAddress r ≤ fieldAt r e
   pub not-empty : 0 < fieldLength r e
   pub before-last : fieldEnd r e < length r
   pub ended : getD r (fieldEnd r e - 1) 0 ≡ fieldMark
 
 pub record Framed (r : List ℕ) : Type 0 where
+  pub base-digits : digitsAt r 12 5 ≡ true
   pub base-inside : baseAddress r < length r
   pub directory-fits : baseAddress r ≡ 25 + 12 * entryCount r
   pub directory-ended : getD r (baseAddress r - 1) 0 ≡ fieldMark

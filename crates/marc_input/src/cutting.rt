@@ -34,8 +34,7 @@ pub enum Cut {
 }
 
 // How many bytes a record says that it has; 0 where it says nothing that can be.
-fn said_length(buffer: &[u8], rest: Rest) -> usize
-{
+fn said_length(buffer: &[u8], rest: Rest) -> usize {
     if rest.end - rest.at < LENGTH_DIGITS {
         return 0;
     }
@@ -50,8 +49,7 @@ fn said_length(buffer: &[u8], rest: Rest) -> usize
 }
 
 // Reads until a mark is there, or more bytes than a record may have, or the input is over.
-fn fill_to_mark(buffer: &mut [u8], rest: Rest) -> Rest
-{
+fn fill_to_mark(buffer: &mut [u8], rest: Rest) -> Rest {
     let mut now = rest;
     let mut mark = find_mark(buffer, now.at, now.end);
     while mark == now.end && !now.over && now.end - now.at <= MOST_BYTES {
@@ -63,30 +61,56 @@ fn fill_to_mark(buffer: &mut [u8], rest: Rest) -> Rest
 }
 
 // A record that is not as long as it says ends with the next mark, or with the input.
-fn cut_at_mark(buffer: &mut [u8], rest: Rest) -> Cut
-{
+fn cut_at_mark(buffer: &mut [u8], rest: Rest) -> Cut {
     let now = fill_to_mark(buffer, rest);
     let mark = find_mark(buffer, now.at, now.end);
     if mark < now.end {
-        return Cut::Whole(now.at, Rest { at: mark + 1, end: now.end, over: now.over });
+        return Cut::Whole(
+            now.at,
+            Rest {
+                at: mark + 1,
+                end: now.end,
+                over: now.over,
+            },
+        );
     }
     if now.over {
-        return Cut::Whole(now.at, Rest { at: now.end, end: now.end, over: true });
+        return Cut::Whole(
+            now.at,
+            Rest {
+                at: now.end,
+                end: now.end,
+                over: true,
+            },
+        );
     }
-    match pass_record(buffer, Rest { at: now.end, end: now.end, over: false }) {
+    match pass_record(
+        buffer,
+        Rest {
+            at: now.end,
+            end: now.end,
+            over: false,
+        },
+    ) {
         Passed::To(left) => Cut::TooLong(left),
         Passed::Endless => Cut::Endless,
     }
 }
 
 // A record that says that it has so many bytes, if it ends there with its mark.
-fn cut_as_said(buffer: &mut [u8], rest: Rest, count: usize) -> Cut
-{
+fn cut_as_said(buffer: &mut [u8], rest: Rest, count: usize) -> Cut {
     let now = fill(buffer, rest, count);
     if now.end - now.at >= count {
         let behind = now.at + count;
         if buffer[behind - 1] == RECORD_MARK {
-            return Cut::Whole(now.at, Rest { at: behind, end: now.end, over: now.over });
+            return Cut::Whole(
+                now.at,
+                Rest {
+                    at: behind,
+                    end: now.end,
+                    over: now.over,
+                },
+            );
         }
     }
     cut_at_mark(buffer, now)

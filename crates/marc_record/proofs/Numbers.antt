@@ -1,11 +1,14 @@
 -- Digits read one by one, and numbers of four and five digits.
 use mathlib.Core.Path.{_≡_, refl, sym as inv, ap, _∙_}
 use mathlib.Core.List.{List}
-use mathlib.Core.Bool.{Bool, true, false}
-use Prim.Native.Nat.{ℕ, suc, _+_, _*_, _-_, _<_}
+use mathlib.Core.Bool.{true, false}
+use Prim.Native.Nat.{ℕ, suc, _+_, _*_, _-_, _≤_, _<_}
 use native.Mathlib.Numerals.{add-one}
 use native.Mathlib.Omega.{arith}
+use lib.Dec.{leb}
 use lib.ListN.{getD}
+use borrow.Author.Tests.{leb-true}
+use Rattle.theory.proofs.Lemmas.{and-left, and-right}
 use Rattle.marc.specs.Frame.{isDigit, digitsAt, valueAt, decimalAt}
 
 -- one less is left
@@ -27,27 +30,43 @@ pub digits-none : (r : List ℕ) (at k n : ℕ) → n ≡ k → digitsAt r (at +
 unfolding digitsAt
 digits-none r at k n e = let z : n - k ≡ 0 = omega arith in rw z
 
--- LAW: the number that four, five bytes write
-module _ (r : List ℕ) (at a b c d : ℕ) (p : a ≡ getD r at 0 - 48) (q : b ≡ getD r (at + 1) 0 - 48) (s : c ≡ getD r (at + 2) 0 - 48) (t : d ≡ getD r (at + 3) 0 - 48) where
-  two : at + 2 ≡ at + 1 + 1
-  two = omega arith
+-- ---- numbers of four and five digits
 
-  three : at + 3 ≡ at + 1 + 1 + 1
-  three = omega arith
+-- a digit and those behind it
+digit-first : (r : List ℕ) (at n : ℕ) → digitsAt r at (suc n) ≡ true → (48 ≤ getD r at 0) × (getD r at 0 ≤ 57) × (digitsAt r (at + 1) n ≡ true)
+unfolding digitsAt
+digit-first r at n e =
+    let b = and-left (isDigit (getD r at 0)) (digitsAt r (at + 1) n) e in (
+      leb-true 48 (getD r at 0) (and-left (leb 48 (getD r at 0)) (leb (getD r at 0) 57) b),
+      leb-true (getD r at 0) 57 (and-right (leb 48 (getD r at 0)) (leb (getD r at 0) 57) b),
+      and-right (isDigit (getD r at 0)) (digitsAt r (at + 1) n) e,
+    )
 
-  third : c ≡ getD r (at + 1 + 1) 0 - 48
-  third = s ∙ ap (λ i. getD r i 0 - 48) two
+-- LAW: the bytes put together are as much more than the number that they write as 48 at each digit makes
+module _ (r : List ℕ) (at a b c d : ℕ) (p : a ≡ getD r at 0) (q : b ≡ getD r (at + 1) 0) (s : c ≡ getD r (at + 2) 0) (t : d ≡ getD r (at + 3) 0) where
+  third : c ≡ getD r (at + 1 + 1) 0
+  third = let i : at + 2 ≡ at + 1 + 1 = omega arith in s ∙ ap (λ i. getD r i 0) i
 
-  fourth : d ≡ getD r (at + 1 + 1 + 1) 0 - 48
-  fourth = t ∙ ap (λ i. getD r i 0 - 48) three
+  fourth : d ≡ getD r (at + 1 + 1 + 1) 0
+  fourth = let i : at + 3 ≡ at + 1 + 1 + 1 = omega arith in t ∙ ap (λ i. getD r i 0) i
 
-  pub four-is : ((a * 10 + b) * 10 + c) * 10 + d ≡ decimalAt r at 4
+  pub four-is : digitsAt r at 4 ≡ true → (((a * 10 + b) * 10 + c) * 10 + d ≡ decimalAt r at 4 + 53328) × (decimalAt r at 4 ≤ 9999)
   unfolding valueAt
-  four-is = omega (arith, p, q, third, fourth)
+  four-is h =
+      let h1 = digit-first r at 3 h in
+      let h2 = digit-first r (at + 1) 2 (h1 .2) in
+      let h3 = digit-first r (at + 1 + 1) 1 (h2 .2) in
+      let h4 = digit-first r (at + 1 + 1 + 1) 0 (h3 .2) in
+      (omega (arith, p, q, third, fourth, h1 .0, h2 .0, h3 .0, h4 .0), omega (arith, h1 .1, h2 .1, h3 .1, h4 .1))
 
-  pub five-is : (e : ℕ) → e ≡ getD r (at + 4) 0 - 48 → (((a * 10 + b) * 10 + c) * 10 + d) * 10 + e ≡ decimalAt r at 5
+  pub five-is : (e : ℕ) → e ≡ getD r (at + 4) 0 → digitsAt r at 5 ≡ true → ((((a * 10 + b) * 10 + c) * 10 + d) * 10 + e ≡ decimalAt r at 5 + 533328) × (decimalAt r at 5 ≤ 99999)
   unfolding valueAt
-  five-is e u =
+  five-is e u h =
       let i : at + 4 ≡ at + 1 + 1 + 1 + 1 = omega arith in
-      let fifth : e ≡ getD r (at + 1 + 1 + 1 + 1) 0 - 48 = u ∙ ap (λ i. getD r i 0 - 48) i in
-      omega (arith, p, q, third, fourth, fifth)
+      let fifth : e ≡ getD r (at + 1 + 1 + 1 + 1) 0 = u ∙ ap (λ i. getD r i 0) i in
+      let h1 = digit-first r at 4 h in
+      let h2 = digit-first r (at + 1) 3 (h1 .2) in
+      let h3 = digit-first r (at + 1 + 1) 2 (h2 .2) in
+      let h4 = digit-first r (at + 1 + 1 + 1) 1 (h3 .2) in
+      let h5 = digit-first r (at + 1 + 1 + 1 + 1) 0 (h4 .2) in
+      (omega (arith, p, q, third, fourth, fifth, h1 .0, h2 .0, h3 .0, h4 .0, h5 .0), omega (arith, h1 .1, h2 .1, h3 .1, h4 .1, h5 .1))

@@ -1,81 +1,95 @@
 // The tests of a record's frame, in their order: each says where the first fault is.
 ghost use mathlib.Core.Path.{_≡_};
 ghost use mathlib.Core.Bool.{not};
-ghost use mathlib.Core.Option.{none};
-ghost use Prim.Native.Nat.{_+_, _*_, _-_, _≤_, _<_};
+ghost use Prim.Native.Nat.{_+_, _≤_, _<_};
 ghost use lib.ListN.{length};
 ghost use Rattle.meaning.specs.Refusals.{first};
-ghost use Rattle.marc.specs.Frame.{baseAddress, entryCount, entryAt, fieldEnd, fieldMark, badBase, entryFault, unmarked, firstPlace, frameRows};
+ghost use Rattle.theory.specs.Least.{orElse};
+ghost use Rattle.marc.specs.Frame.{baseAddress, entryAt, fieldMark, badBase, unmarked, frameRows};
 ghost use Rattle.table.specs.Places.{placeIn};
-ghost use Rattle.marc_record.specs.Frames.{Directory, fieldRows, foundAt};
+ghost use Rattle.marc_record.specs.Frames.{Directory, EntryIs, EntriesAre, firstUnmarked, markRows, fieldRows, foundAt};
 use crate::number::digits;
 use crate::number::five;
 use crate::number::four;
 use table::rules::Place;
 
-// The fault of one entry, if it has one.
-fn fault_of(bytes: &[u8], base: usize, e: usize) -> Place
-    requires { ⌜ (base ≡ baseAddress (now bytes)) × (base ≤ 2299977) × (entryAt e + 12 ≤ length (now bytes)) ⌝ }
-    ensures { λ r. ⌜ placeIn r ≡ entryFault (now (bytes .entry)) e ⌝ }
+// Hex 1E and 1D: they end the directory and each field, and the record.
+const FIELD_MARK: u8 = 30;
+
+pub const RECORD_MARK: u8 = 29;
+
+pub enum Entry {
+    // its length or its start is at fault, at this byte
+    Fault(usize),
+    // its field's last byte
+    Last(usize),
+}
+
+// One entry.
+fn read_entry(bytes: &[u8], base: usize, e: usize) -> Entry
+    requires { ⌜ (base ≡ baseAddress (now bytes)) × (base ≤ 99999) × (entryAt e + 12 ≤ length (now bytes)) ⌝ }
+    ensures { λ r. ⌜ EntryIs (now (bytes .entry)) e r ⌝ }
 {
     let at = 24 + 12 * e;
     if !digits(bytes, at + 3, 4) {
-        return Place::At(at + 3);
+        return Entry::Fault(at + 3);
     }
     let length = four(bytes, at + 3);
     if length == 0 {
-        return Place::At(at + 3);
+        return Entry::Fault(at + 3);
     }
     if !digits(bytes, at + 7, 5) {
-        return Place::At(at + 7);
+        return Entry::Fault(at + 7);
     }
-    if base + five(bytes, at + 7) + length >= bytes.len() {
-        return Place::At(at + 7);
+    let end = base + five(bytes, at + 7) + length;
+    if end >= bytes.len() {
+        return Entry::Fault(at + 7);
     }
-    Place::Nowhere
+    Entry::Last(end - 1)
 }
 
-// The first entry's fault.
-fn bad_entry(bytes: &[u8], base: usize, entries: usize) -> Place
-    requires { ⌜ Directory (now bytes) base entries ⌝ }
-    ensures { λ r. ⌜ placeIn r ≡ firstPlace (entryCount (now (bytes .entry))) (entryFault (now (bytes .entry))) ⌝ }
+// The first byte without its mark: the one found before, or else this one.
+fn unmarked_at(bytes: &[u8], found: Place, at: usize) -> Place
+    requires { ⌜ at < length (now bytes) ⌝ }
+    ensures { λ r. ⌜ placeIn r ≡ orElse (placeIn found) (unmarked (now (bytes .entry)) at fieldMark) ⌝ }
 {
-    let mut e: usize = 0;
-    while e < entries {
-        match fault_of(bytes, base, e) {
-            Place::At(place) => {
-                return Place::At(place);
+    match found {
+        Place::At(place) => Place::At(place),
+        Place::Nowhere => {
+            if bytes[at] == FIELD_MARK {
+                return Place::Nowhere;
             }
-            Place::Nowhere => {}
+            Place::At(at)
         }
-        e += 1;
     }
-    Place::Nowhere
 }
 
-// The first byte behind a field.
-fn field_end(bytes: &[u8], base: usize, e: usize) -> usize
-    requires { ⌜ (base ≡ baseAddress (now bytes)) × (base ≤ 2299977) × (entryAt e + 12 ≤ length (now bytes)) ⌝ }
-    ensures { λ r. ⌜ r ≡ fieldEnd (now (bytes .entry)) e ⌝ }
-{
-    let at = 24 + 12 * e;
-    base + five(bytes, at + 7) + four(bytes, at + 3)
+pub enum Entries {
+    // the first entry at fault, at this byte
+    Fault(usize),
+    // all are in order; where the first field lacks its mark
+    Read(Place),
 }
 
-// The first field that does not end with its mark.
-fn bad_field(bytes: &[u8], base: usize, entries: usize) -> Place
-    requires { ⌜ Directory (now bytes) base entries × (firstPlace (entryCount (now bytes)) (entryFault (now bytes)) ≡ none) ⌝ }
-    ensures { λ r. ⌜ placeIn r ≡ firstPlace (entryCount (now (bytes .entry))) (λ e. unmarked (now (bytes .entry)) (fieldEnd (now (bytes .entry)) e - 1) fieldMark) ⌝ }
+// All entries. A field's mark is looked at with its entry, and told if no entry is at fault.
+fn read_entries(bytes: &[u8], base: usize, entries: usize) -> Entries
+    requires { ⌜ Directory (now bytes) base entries ⌝ }
+    ensures { λ r. ⌜ EntriesAre (now (bytes .entry)) r ⌝ }
 {
+    let mut unmarked = Place::Nowhere;
     let mut e: usize = 0;
     while e < entries {
-        let last = field_end(bytes, base, e) - 1;
-        if bytes[last] != 30 {
-            return Place::At(last);
+        match read_entry(bytes, base, e) {
+            Entry::Fault(place) => {
+                return Entries::Fault(place);
+            }
+            Entry::Last(last) => {
+                unmarked = unmarked_at(bytes, unmarked, last);
+            }
         }
         e += 1;
     }
-    Place::Nowhere
+    Entries::Read(unmarked)
 }
 
 // Whether the base address is in order.
@@ -96,31 +110,35 @@ fn fine_base(bytes: &[u8]) -> bool
     base < bytes.len()
 }
 
-// The first fault of the entries, the marks or the record's end.
+// The first fault of the marks: the directory's, a field's, the record's.
+fn check_marks(bytes: &[u8], base: usize, unmarked: Place) -> Place
+    requires { ⌜ (base ≡ baseAddress (now bytes)) × (0 < base) × (base ≤ length (now bytes)) × (placeIn unmarked ≡ firstUnmarked (now bytes)) ⌝ }
+    ensures { λ r. ⌜ foundAt r ≡ first (markRows (now (bytes .entry))) ⌝ }
+{
+    if bytes[base - 1] != FIELD_MARK {
+        return Place::At(base - 1);
+    }
+    match unmarked {
+        Place::At(place) => Place::At(place),
+        Place::Nowhere => {
+            let last = bytes.len() - 1;
+            if bytes[last] != RECORD_MARK {
+                return Place::At(last);
+            }
+            Place::Nowhere
+        }
+    }
+}
+
+// The first fault behind the leader.
 fn check_fields(bytes: &[u8], base: usize, entries: usize) -> Place
     requires { ⌜ Directory (now bytes) base entries ⌝ }
     ensures { λ r. ⌜ foundAt r ≡ first (fieldRows (now (bytes .entry))) ⌝ }
 {
-    match bad_entry(bytes, base, entries) {
-        Place::At(place) => {
-            return Place::At(place);
-        }
-        Place::Nowhere => {}
+    match read_entries(bytes, base, entries) {
+        Entries::Fault(place) => Place::At(place),
+        Entries::Read(unmarked) => check_marks(bytes, base, unmarked),
     }
-    if bytes[base - 1] != 30 {
-        return Place::At(base - 1);
-    }
-    match bad_field(bytes, base, entries) {
-        Place::At(place) => {
-            return Place::At(place);
-        }
-        Place::Nowhere => {}
-    }
-    let last = bytes.len() - 1;
-    if bytes[last] != 29 {
-        return Place::At(last);
-    }
-    Place::Nowhere
 }
 
 // The first fault of the frame.

@@ -1,6 +1,7 @@
 // Numbers in decimal digits.
 ghost use mathlib.Core.Path.{_≡_};
-ghost use Prim.Native.Nat.{_+_, _-_, _≤_};
+ghost use mathlib.Core.Bool.{true};
+ghost use Prim.Native.Nat.{_+_, _≤_, _<_};
 ghost use lib.ListN.{length};
 ghost use Rattle.marc.specs.Frame.{isDigit, digitsAt, decimalAt};
 
@@ -25,37 +26,33 @@ pub fn digits(bytes: &[u8], at: usize, n: usize) -> bool
     true
 }
 
-// What a digit stands for. (Any other byte gives some number too, so that this can be asked of any.)
-fn digit(byte: u8) -> usize
-    ensures { λ r. ⌜ (r ≡ byte - 48) × (r ≤ 207) ⌝ }
+fn wide(byte: u8) -> usize
+    ensures { λ r. ⌜ (r ≡ byte) × (r < 256) ⌝ }
 {
-    if byte < 48 {
-        return 0;
-    }
-    (byte - 48) as usize
+    byte as usize
 }
 
-// The number that four bytes write.
+// The number that four digits write. Each byte is 48 more than its digit stands for, which is taken off at the end, once for all.
 pub fn four(bytes: &[u8], at: usize) -> usize
-    requires { ⌜ at + 4 ≤ length (now bytes) ⌝ }
-    ensures { λ r. ⌜ (r ≡ decimalAt (now (bytes .entry)) at 4) × (r ≤ 229977) ⌝ }
+    requires { ⌜ (at + 4 ≤ length (now bytes)) × (digitsAt (now bytes) at 4 ≡ true) ⌝ }
+    ensures { λ r. ⌜ (r ≡ decimalAt (now (bytes .entry)) at 4) × (r ≤ 9999) ⌝ }
 {
-    let a = digit(bytes[at]);
-    let b = digit(bytes[at + 1]);
-    let c = digit(bytes[at + 2]);
-    let d = digit(bytes[at + 3]);
-    ((a * 10 + b) * 10 + c) * 10 + d
+    let a = wide(bytes[at]);
+    let b = wide(bytes[at + 1]);
+    let c = wide(bytes[at + 2]);
+    let d = wide(bytes[at + 3]);
+    ((a * 10 + b) * 10 + c) * 10 + d - 48 * 1111
 }
 
-// The number that five bytes write.
+// The number that five digits write.
 pub fn five(bytes: &[u8], at: usize) -> usize
-    requires { ⌜ at + 5 ≤ length (now bytes) ⌝ }
-    ensures { λ r. ⌜ (r ≡ decimalAt (now (bytes .entry)) at 5) × (r ≤ 2299977) ⌝ }
+    requires { ⌜ (at + 5 ≤ length (now bytes)) × (digitsAt (now bytes) at 5 ≡ true) ⌝ }
+    ensures { λ r. ⌜ (r ≡ decimalAt (now (bytes .entry)) at 5) × (r ≤ 99999) ⌝ }
 {
-    let a = digit(bytes[at]);
-    let b = digit(bytes[at + 1]);
-    let c = digit(bytes[at + 2]);
-    let d = digit(bytes[at + 3]);
-    let e = digit(bytes[at + 4]);
-    (((a * 10 + b) * 10 + c) * 10 + d) * 10 + e
+    let a = wide(bytes[at]);
+    let b = wide(bytes[at + 1]);
+    let c = wide(bytes[at + 2]);
+    let d = wide(bytes[at + 3]);
+    let e = wide(bytes[at + 4]);
+    (((a * 10 + b) * 10 + c) * 10 + d) * 10 + e - 48 * 11111
 }

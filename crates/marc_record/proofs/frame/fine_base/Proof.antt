@@ -25,7 +25,7 @@ returns c =
     rw d
 
 five-requires : tie.Need-five-requires
-five-requires c κs = search needs
+five-requires c κs = (omega arith, is-number c)
 
 returns-2 : tie.Need-returns-2
 returns-2 c =

@@ -1,4 +1,4 @@
--- Each early return knows one more of the four tests of an entry.
+-- Each early return knows one more of the four tests of an entry; the last knows all, and with them where the field ends.
 use borrow.Author.Needs.{needs}
 use borrow.Author.Tests.{not-true, not-false, lt-ltb, le-ltb, eq-eqb, ne-eqb}
 use mathlib.Core.Path.{_≡_, sym, ap, _∙_}
@@ -8,8 +8,8 @@ use native.Mathlib.Omega.{arith}
 use denote.Ref.{now}
 use lib.ListN.{length}
 use Rattle.marc.specs.Frame.{digitsAt, entryAt, fieldLength, fieldEnd}
-use Rattle.marc_record.proofs.frame.fault_of.Statement.{statement}
-use Rattle.marc_record.proofs.frame.fault_of.Tie as tie
+use Rattle.marc_record.proofs.frame.read_entry.Statement.{statement}
+use Rattle.marc_record.proofs.frame.read_entry.Tie as tie
 
 -- the length, the start are numbers
 length-number : (c : tie.Else1) → let a = c .before .before .before .args in digitsAt (now (a .bytes)) (entryAt (a .e) + 3) 4 ≡ true
@@ -30,8 +30,8 @@ add-digits c = search needs
 digits-requires : tie.Need-digits-requires
 digits-requires c κs = search needs
 
-add-t9 : tie.Need-add-t9
-add-t9 c = search needs
+add-t10 : tie.Need-add-t10
+add-t10 c = search needs
 
 returns : tie.Need-returns
 returns c =
@@ -43,10 +43,10 @@ add-four : tie.Need-add-four
 add-four c = search needs
 
 four-requires : tie.Need-four-requires
-four-requires c κs = search needs
+four-requires c κs = (omega arith, length-number c)
 
-add-t10 : tie.Need-add-t10
-add-t10 c = search needs
+add-t11 : tie.Need-add-t11
+add-t11 c = search needs
 
 returns-2 : tie.Need-returns-2
 returns-2 c =
@@ -60,8 +60,8 @@ add-digits-2 c = search needs
 digits-requires-2 : tie.Need-digits-requires-2
 digits-requires-2 c κs = search needs
 
-add-t11 : tie.Need-add-t11
-add-t11 c = search needs
+add-t12 : tie.Need-add-t12
+add-t12 c = search needs
 
 returns-3 : tie.Need-returns-3
 returns-3 c =
@@ -74,53 +74,70 @@ add-five : tie.Need-add-five
 add-five c = search needs
 
 five-requires : tie.Need-five-requires
-five-requires c κs = search needs
+five-requires c κs = (omega arith, start-number c)
 
-add-if4 : tie.Need-add-if4
-add-if4 c = search needs
+add-end : tie.Need-add-end
+add-end c = search needs
 
-add-if4-2 : tie.Need-add-if4-2
-add-if4-2 c = search needs
+add-end-2 : tie.Need-add-end-2
+add-end-2 c = search needs
 
-add-t16 : tie.Need-add-t16
-add-t16 c = search needs
+add-t15 : tie.Need-add-t15
+add-t15 c = search needs
 
 returns-4 : tie.Need-returns-4
 returns-4 c =
     let a = c .before .before .before .before .before .before .before .before .before .args in
     let v = c .before .before .before .before .before .four .ensures .0 in
     let w = c .before .five .ensures .0 in
-    rw (length-number (c .before .before .before .before .before .before), ne-eqb (fieldLength (now (a .bytes)) (a .e)) 0 (λ e. omega arith), start-number (c .before .before), le-ltb (fieldEnd (now (a .bytes)) (a .e)) (length (now (a .bytes))) (omega arith))
+    rw (
+      length-number (c .before .before .before .before .before .before),
+      ne-eqb (fieldLength (now (a .bytes)) (a .e)) 0 (λ e. omega arith),
+      start-number (c .before .before),
+      le-ltb (fieldEnd (now (a .bytes)) (a .e)) (length (now (a .bytes))) (omega arith),
+    )
+
+sub-t13 : tie.Need-sub-t13
+sub-t13 c = search needs
 
 returns-5 : tie.Need-returns-5
 returns-5 c =
     let a = c .before .before .before .before .before .before .before .before .before .args in
     let v = c .before .before .before .before .before .four .ensures .0 in
-    let w = c .before .five .ensures .0 in
-    rw (length-number (c .before .before .before .before .before .before), ne-eqb (fieldLength (now (a .bytes)) (a .e)) 0 (λ e. omega arith), start-number (c .before .before), lt-ltb (fieldEnd (now (a .bytes)) (a .e)) (length (now (a .bytes))) (omega arith))
+    let w = c .before .five .ensures .0 in (
+      rw (
+        length-number (c .before .before .before .before .before .before),
+        ne-eqb (fieldLength (now (a .bytes)) (a .e)) 0 (λ e. omega arith),
+        start-number (c .before .before),
+        lt-ltb (fieldEnd (now (a .bytes)) (a .e)) (length (now (a .bytes))) (omega arith),
+      ),
+      omega arith,
+      omega arith,
+    )
 
-pub fault-of-spec : {M : Type 1} → statement M
-fault-of-spec =
+pub read-entry-spec : {M : Type 1} → statement M
+read-entry-spec =
     tie.close
     (tie.spec
     mul-at
     add-at
     add-digits
     digits-requires
-    add-t9
+    add-t10
     returns
     add-four
     four-requires
-    add-t10
+    add-t11
     returns-2
     add-digits-2
     digits-requires-2
-    add-t11
+    add-t12
     returns-3
     add-five
     five-requires
-    add-if4
-    add-if4-2
-    add-t16
+    add-end
+    add-end-2
+    add-t15
     returns-4
+    sub-t13
     returns-5)
