@@ -1,19 +1,21 @@
 """Cases for the program crates/call_cases: how one is written, and what is to be answered.
 
 A case is nine numbers (which call; how many bytes there are, as two numbers to be added; how many numbers each of three lists has; three
-numbers that the call takes besides), then the bytes (the table, or the arities to be written) and the lists (nodes, or the pairs to be
-written; or words, four numbers to each, the low one first). Its answer is a line that begins with the case's number.
+numbers that the call takes besides), then the bytes (the table, the arities to be written, or a record) and the lists (nodes, or the pairs to
+be written; or words, four numbers to each, the low one first). With a record the lists are where the known strings end, two numbers to each
+end, the strings' numbers, and the strings themselves, in bytes. Its answer is a line that begins with the case's number.
 """
 import sys
 
+import exchange
 import reference
 from reference import Refused, two_bytes
 
 # as in the program: what fills a match's buffers before the call, their lengths (that of sets is the converter's output's too), the length of a
-# write's output, and room for bytes and a list
-GUARD, SPANS, SETS, OUTPUT, BYTES, LONGEST = 9999, 136, 1026 * reference.WORDS, 72, 65544, 24579
+# write's output and that of a record's, and room for bytes and a list
+GUARD, SPANS, SETS, OUTPUT, NODES, BYTES, LONGEST = 9999, 136, 1026 * reference.WORDS, 72, 6, 99999, 24579
 
-SYMBOL_DEGREE, DEGREE, SUBTERM, NEARER, MATCH, IS_TABLE, ARITY, PAIR, WRITE, WIDEN = range(1, 11)
+SYMBOL_DEGREE, DEGREE, SUBTERM, NEARER, MATCH, IS_TABLE, ARITY, PAIR, WRITE, WIDEN, HEADING = range(1, 12)
 
 
 # ---- what is asked
@@ -100,22 +102,34 @@ def widen_text(saved, room):
     return said + ' output' + runs(output)
 
 
+def headed_text(nodes):
+    return 'heading ' + part_text('output', nodes + [GUARD] * (NODES - len(nodes)))
+
+
+def heading_text(record, lent, symbol, absent, room):
+    try:
+        return headed_text(exchange.heading(record, lent, symbol, absent, room))
+    except Refused as why:
+        return refused(why) + ' ' + part_text('output', [GUARD] * NODES)
+
+
 # ---- cases
 
 class Cases:
     """Each method adds a case, with the reference's answer where it has one. Where another source tells the answer the two have to agree;
-    for a match and for saved answers it may leave out the buffers."""
+    for a match and for saved answers it may leave out the buffers, for a record's heading it may be the nodes."""
 
     def __init__(self):
         self.asked, self.lines = [], []
 
-    def add(self, kind, data, lists, numbers, answer, told):
+    def add(self, kind, data, lists, numbers, answer, told, text=b''):
         if None not in (answer, told) and answer != told and not answer.startswith((told + ' spans', told + ' output')):
             sys.exit('kind %d, bytes %.300s, lists %.300s, numbers %s: %.300s, not %.300s' % (kind, data.hex(), lists, numbers, answer, told))
         assert len(data) <= BYTES and max(map(len, lists), default=0) <= LONGEST
-        sizes = two_numbers(len(data)) + [len(nodes) for nodes in lists] + [0] * (3 - len(lists))
-        header = [kind] + sizes + list(numbers) + [0] * (3 - len(numbers))
-        self.asked.append(words(header) + bytes(data) + b''.join(map(words, lists)))
+        sizes = [len(nodes) for nodes in lists] + [0] * (3 - len(lists))
+        sizes[2] += len(text)
+        header = [kind] + two_numbers(len(data)) + sizes + list(numbers) + [0] * (3 - len(numbers))
+        self.asked.append(words(header) + bytes(data) + b''.join(map(words, lists)) + text)
         self.lines.append('%d %s\n' % (len(self.lines), answer or told))
 
     def is_table(self, table, told=None):
@@ -160,3 +174,10 @@ class Cases:
         assert room < SETS
         numbers = [word >> at & 65535 for word in saved for at in range(0, 64, 16)]
         self.add(WIDEN, b'', [numbers], [room], widen_text(saved, room), told)
+
+    def heading(self, record, lent, told=None, symbol=0, absent=9, room=exchange.NODES):
+        assert room < NODES
+        text, ends, numbers = lent
+        halves = [half for end in ends for half in (end & 65535, end >> 16)]
+        answer = heading_text(record, lent, symbol, absent, room)
+        self.add(HEADING, record, [halves, numbers], [symbol, absent, room], answer, headed_text(told) if isinstance(told, list) else told, text)

@@ -4,13 +4,15 @@
     make_call_cases.py            writes both files
     make_call_cases.py --check    says whether the stored files are what is made today
 
-Where a case has a published answer, or one that the rules spell out, the reference has to agree with it. The last cases are those of
-table_cases.txt, with answers made by hand.
+Where a case has a published answer, or one that the rules spell out, the reference has to agree with it. The cases of table_cases.txt have
+answers made by hand. The last cases are of exchange records.
 """
+import record_cases
 import stored
 from call_cases import GUARD, SETS, SPANS, Cases, part_text, runs
 from chosen_cases import GROUPS
 from drawing import Draw, damaged, damaged_table, draw_match, draw_table, stray
+from drawn_records import draw_either, draw_known, draw_lent
 from reference import MOST_SYMBOLS, WORDS, match, table_bytes
 from table_cases import by_hand
 
@@ -78,6 +80,14 @@ def drawn(cases, seed):
         cases.match(data, pattern, heading, cut, spans=128 + draw.one([0, 0, 1, 7]), sets=max(sets, 0))
 
 
+def drawn_record(cases, seed):
+    draw = Draw(seed)
+    absent = draw.one([0, 9, 65535])
+    known = draw_known(draw, absent)
+    record = draw_either(draw, known)
+    cases.heading(record, draw_lent(draw, known), symbol=draw.below(3), absent=absent, room=draw.one([2, 3, 3, 3, 3, 3, 4, 5]))
+
+
 # ---- the files
 
 def made():
@@ -87,6 +97,10 @@ def made():
     for seed in range(300):
         drawn(cases, seed)
     by_hand(cases)
+    for group in record_cases.GROUPS:
+        group(cases)
+    for seed in range(200):
+        drawn_record(cases, seed)
     return {'stdin': b''.join(cases.asked), 'stdout': ''.join(cases.lines).encode()}, len(cases.lines)
 
 

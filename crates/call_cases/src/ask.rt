@@ -1,5 +1,6 @@
 // The calls, a kind of case for each: here those that take no term.
 use crate::input::Header;
+use crate::on_records;
 use crate::on_terms;
 use crate::saves::ask_widen;
 use crate::say;
@@ -19,6 +20,7 @@ pub fn ask(header: Header, table: &[u8], first: &[u16]) {
         8 => say::pair(pair_of(table, asked.x as usize + asked.y as usize)),
         9 => ask_write(asked.x, table, first),
         10 => ask_widen(asked.x, first),
+        11 => on_records::ask(header, table, first),
         _ => on_terms::ask(header, table, first),
     }
 }

@@ -1,13 +1,16 @@
-// The cases as standard input has them. A case is a header of nine numbers, a list of bytes (the table, or the arities to be written) and three
-// lists of numbers (nodes, the pairs to be written, or words, four numbers to each). Numbers are two bytes each, low byte first.
+// The cases as standard input has them. A case is a header of nine numbers, a list of bytes (the table, the arities to be written, or a record) and
+// three lists of numbers (nodes, the pairs to be written, or words, four numbers to each). With a record the lists are where the known strings end, two
+// numbers to each end, the strings' numbers, and the strings themselves, in bytes. Numbers are two bytes each, low byte first.
 ghost use Prim.Native.Nat.{_≤_};
 ghost use Rattle.io.specs.Counts.{Counts};
 use table::number::number_at;
 
-// Room for the bytes of a case, and for each list.
-pub const BYTES: usize = 65544;
+// Room for the bytes of a case, for each list, and for the known strings.
+pub const BYTES: usize = 99999;
 
 pub const LONGEST: usize = 24579;
+
+pub const TEXT: usize = 65535;
 
 // Which call, and the numbers that it takes besides the lists.
 pub struct Asked {

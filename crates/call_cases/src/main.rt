@@ -3,6 +3,7 @@
 mod ask;
 mod buffers;
 mod input;
+mod on_records;
 mod on_terms;
 mod saves;
 mod say;

@@ -1,4 +1,6 @@
 // Answers as text, a line for each case. What follows the case's number begins with a space.
+use exchange::Fault;
+use exchange::Headed;
 use refusal::Refusal;
 use tables::ArityAnswer;
 use tables::DegreeAnswer;
@@ -62,6 +64,18 @@ pub fn written(answer: Writing) {
         Writing::Written(total) => one(b" written ", total as u64),
         Writing::Refused(why) => refused(why),
     }
+}
+
+pub fn headed(answer: Headed) {
+    match answer {
+        Headed::Written => text(b" heading"),
+        Headed::Refused(why) => unheaded(why),
+    }
+}
+
+fn unheaded(why: Fault) {
+    one(b" refused ", why.number() as u64);
+    one(b" ", why.place() as u64);
 }
 
 // A list that was handed back: its length, and its nodes.
