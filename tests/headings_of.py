@@ -106,10 +106,12 @@ def replies(listed, data):
 def main():
     if len(sys.argv) != 2:
         sys.exit(__doc__)
-    with open(sys.argv[1], 'rb') as stored:
-        listed = stored.read()
     try:
+        with open(sys.argv[1], 'rb') as stored:
+            listed = stored.read()
         sys.stdout.buffer.write(replies(listed, sys.stdin.buffer.read()))
+    except OSError as why:
+        sys.exit(str(why))
     except BadList as bad:
         sys.exit('line %s of the list has another shape' % bad.line if bad.line else 'the list is too long')
 

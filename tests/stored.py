@@ -31,7 +31,7 @@ def keep(crate, files, count, said):
         print('not as made today: ' + ', '.join(unlike) if unlike else '%d %s, stored as made today' % (count, said))
         sys.exit(1 if unlike else 0)
     for name, data in files.items():
-        os.makedirs(place(crate, ''), exist_ok=True)
+        os.makedirs(os.path.dirname(place(crate, name)), exist_ok=True)
         with open(place(crate, name), 'wb') as stored:
             stored.write(data)
     print('%d %s, %d bytes asked, %d bytes answered' % (count, said, len(files['stdin']), len(files['stdout'])))

@@ -1,5 +1,6 @@
-"""Runs a program on inputs and holds what it writes, and its exit status, against what is wanted."""
+"""Runs a program on inputs and holds what it writes, what it tells on standard error, and its exit status, against what is wanted."""
 import argparse
+import re
 import subprocess
 import sys
 import tempfile
@@ -11,16 +12,16 @@ TOLD = 5                                          # of the runs that go wrong so
 
 
 def run(command, given, piece=None):
-    """Output and status. With a piece, the input is handed over in pieces of so many bytes, so that the program reads short."""
+    """Output, what is told, and status. With a piece, the input is handed over in pieces of so many bytes, so that the program reads short."""
     if piece is None:
-        done = subprocess.run(command, input=given, stdout=subprocess.PIPE, timeout=LIMIT)
-        return done.stdout, done.returncode
-    with subprocess.Popen(command, stdin=subprocess.PIPE, stdout=subprocess.PIPE) as program:
+        done = subprocess.run(command, input=given, stdout=subprocess.PIPE, stderr=subprocess.PIPE, timeout=LIMIT)
+        return done.stdout, done.stderr, done.returncode
+    with subprocess.Popen(command, stdin=subprocess.PIPE, stdout=subprocess.PIPE, stderr=subprocess.PIPE) as program:
         feeder = threading.Thread(target=feed, args=(program.stdin, given, piece))
         feeder.start()
-        output = program.stdout.read()
+        output, told = program.stdout.read(), program.stderr.read()
         feeder.join()
-        return output, program.wait()
+        return output, told, program.wait()
 
 
 def feed(pipe, given, piece):
@@ -35,10 +36,10 @@ def feed(pipe, given, piece):
 
 
 def difference(output, wanted):
-    """The first line that differs, and the question that it answers, if they are numbered."""
+    """The first line that differs, and the question or record that it answers, if they are numbered."""
     got, right = output.split(b'\n'), wanted.split(b'\n')
     line = next((i for i, (a, b) in enumerate(zip(got, right)) if a != b), min(len(got), len(right)))
-    asked = [text for text in right[:line + 1] if text.startswith(b'question ')]
+    asked = [text for text in right[:line + 1] if text.startswith((b'question ', b'record '))]
     return '%s, line %d: %r, not %r' % (asked[-1].decode() if asked else 'answer', line + 1, got[line:line + 1], right[line:line + 1])
 
 
@@ -46,20 +47,22 @@ class Trial:
     def __init__(self, command):
         self.command, self.runs, self.wrong = command, 0, 0
 
-    def check(self, label, given, wanted, piece=None):
+    def check(self, label, given, wanted, piece=None, more=(), telling=None):
+        """Whether a run with these further arguments prints what is wanted, and tells what the pattern has; no pattern: it tells nothing."""
         self.runs += 1
-        output, status = run(self.command, given, piece)
-        if (output, status) == (wanted, 0):
-            return
+        output, told, status = run(self.command + list(more), given, piece)
+        if (output, status) == (wanted, 0) and re.fullmatch(telling or b'', told):
+            return True
         self.wrong += 1
         if self.wrong <= TOLD:
             with tempfile.NamedTemporaryFile(delete=False, prefix='wrong-') as kept:
                 kept.write(given)
-            said = 'status %d' % status if output == wanted else difference(output, wanted)
+            said = difference(output, wanted) if output != wanted else 'status %d, told %r' % (status, told)
             print('%s: %s (input kept in %s)' % (label, said, kept.name))
+        return False
 
-    def finish(self, questions):
-        print('%d runs, %d questions: %s' % (self.runs, questions, '%d runs go wrong' % self.wrong if self.wrong else 'all answered right'))
+    def finish(self, count, what='questions'):
+        print('%d runs, %d %s: %s' % (self.runs, count, what, '%d runs go wrong' % self.wrong if self.wrong else 'all answered right'))
         sys.exit(1 if self.wrong else 0)
 
 
