@@ -66,9 +66,12 @@ def long_lists():
     yield GOOD + b'7 ' + b'x' * rest
     yield b'0' * (LONGEST_LIST + 1)
     yield b'7 8\n' * (LONGEST_LIST // 4 + 1)
-    for count in 65533, 65534, 65535, 65536, 65537, 70000:
-        many = GOOD + b''.join(b'7 %d\n' % k for k in range(100000, 100000 + count))
-        yield from (many, many + b'5\n', many + b'7 %d\n' % (99999 + count))
+    for count in 65534, 65535, 65536, 65537, 70000:
+        rising = [(b'%d' % k, 7) for k in range(100000, 100000 + count - len(KNOWN))] + sorted(KNOWN)
+        many = list_file(SYMBOL, ABSENT, rising)
+        yield from (many, many + b'5\n', many[:-1])
+    unlike = list_file(SYMBOL, ABSENT, [(b'%d' % (7919 * k % 10007), 7) for k in range(3000)] + KNOWN)
+    yield from (unlike, unlike + b'7 0\n', unlike + b'9 A\n')
     yield b'0 9\n' + b'1 \n' * 349523
 
 
