@@ -7,7 +7,7 @@ use lib.Dec.{eqb}
 use Rattle.meaning.specs.Calls.{Answer, refused, gives, refusedAs, Yes, aye}
 use Rattle.marc.specs.Known.{knownIn}
 use Rattle.marc.specs.Heading.{headed, laterNodes}
-use Rattle.marc.specs.Reading.{HeadedBy, HeadsCall}
+use Rattle.marc.specs.Reading.{HeadsCall}
 use Rattle.marc.proofs.Headings.{heads-call}
 use Rattle.exchange.specs.Said.{told, said}
 use Rattle.exchange.specs.Heading.{ReadHeading}

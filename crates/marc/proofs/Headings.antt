@@ -3,21 +3,23 @@ use mathlib.Core.Path.{_≡_, refl, sym as inv, ap, ap₂, _∙_, subst}
 use mathlib.Core.List.{List, [], _∷_}
 use mathlib.Core.Bool.{Bool, true, false, cond, false≢true}
 use mathlib.Core.Option.{Option, none, some as just, Option·some-ne-none}
-use Prim.Native.Nat.{ℕ, zero, suc, _<_}
+use Prim.Native.Nat.{ℕ, zero, suc, _≤_, _<_}
 use native.Mathlib.Omega.{arith}
-use lib.ListN.{getD}
-use Rattle.meaning.specs.Refusals.{first, row8-output}
-use Rattle.meaning.specs.Calls.{aye}
+use lib.Dec.{ltb}
+use lib.ListN.{length, getD, length-drop}
+use borrow.Author.Tests.{ltb-false}
+use Rattle.meaning.specs.Refusals.{Refusal, first, row8-output}
+use Rattle.meaning.specs.Calls.{aye, symbolDegree}
 use Rattle.meaning.proofs.First.{Silent, all-silent, append-none, exactly, unless-gives, unless-refused}
 use Rattle.meaning.proofs.Sound.{at0-none}
 use Rattle.meaning.proofs.Degrees.{symbol-degrees}
 use Rattle.marc.specs.Frame.{Field, field, fieldsIn, frameRows, atIf}
 use Rattle.marc.specs.Subfields.{subfield}
 use Rattle.marc.specs.Known.{Known, same, numberIn, row19}
-use Rattle.marc.specs.Heading.{tag100, codeA, codeD, firstWith, thenIn, missing, field100, nameIn, datesIn, row20, row21, row22, unlisted, nodeOf, headingRows, headingOf, headed, laterNodes}
+use Rattle.marc.specs.Heading.{tag100, codeA, codeD, firstWith, thenIn, missing, field100, nameIn, datesIn, row20, row21, row22, unlisted, nodeOf, headingRows, headingOf, headed, laterNodes, headingCall}
 use Rattle.marc.specs.Plain.{tagOf}
-use Rattle.marc.specs.Reading.{FirstWith, Listed, DatesNode, Heads, HeadedBy, HeadsCall, AbsentApart}
-use Rattle.marc.proofs.Strings.{same-true, true-same, is-listed, not-absent}
+use Rattle.marc.specs.Reading.{FirstWith, Listed, DatesNode, Heads, HeadsCall, HeadingOrder, HeadingLeaves, AbsentApart}
+use Rattle.marc.proofs.Strings.{same-true, true-same, not-same, is-listed, not-absent}
 use Rattle.marc.proofs.Frames.{or-none, at-none}
 
 -- LAW: the field that is found is the first with its tag
@@ -39,6 +41,17 @@ first-with tag (field t c ∷ fs) content e = go (same t tag) refl e (first-with
         before f zero l q = false≢true (inv p ∙ true-same t tag q)
         before f (suc k) l q = f .none-before k (omega arith) q
 
+-- LAW: .. and the first with its tag is found
+pub with-first : (tag : List ℕ) (fs : List Field) (content : List ℕ) → FirstWith tag fs content → firstWith tag fs ≡ just content
+unfolding firstWith
+with-first tag fs content f = go fs (f .index) (f .inside) (f .is) (f .none-before)
+  where
+    go : (fs : List Field) (i : ℕ) → i < length fs → getD fs i (field [] []) ≡ field tag content
+        → ((k : ℕ) → k < i → tagOf (getD fs k (field [] [])) ≡ tag → ⊥) → firstWith tag fs ≡ just content
+    go [] i l e n = absurd (omega arith)
+    go (field t c ∷ fs) zero l e n = let q : t ≡ tag = cc in let r : c ≡ content = cc in rw (true-same t tag q) (ap just r)
+    go (field t c ∷ fs) (suc i) l e n = rw (not-same t tag (n 0 (omega arith))) (go fs i (omega arith) e (λ k m. n (suc k) (omega arith)))
+
 -- what is not missing is there
 there : {A : Type 0} (o : Option A) → missing o ≡ false → (a : A) × (o ≡ just a)
 there none e = absurd (false≢true (inv e))
@@ -55,6 +68,11 @@ module _ (r : List ℕ) (ks : List Known) (heading absent : ℕ) (output : List 
 
   pub frame-fine : first (frameRows r) ≡ none
   frame-fine = append-none (row19 ks absent ∷ row8-output 3 output ∷ []) (frameRows r) (split .0) .1
+
+  -- LAW: there is room
+  pub room : 3 ≤ length output
+  unfolding row8-output
+  room = ltb-false (length output) 3 (at0-none (ltb (length output) 3) (all-silent (row19 ks absent ∷ row8-output 3 output ∷ frameRows r) (split .0) .1 .0))
 
   has-100 : missing (field100 r) ≡ false
   unfolding row20
@@ -99,9 +117,6 @@ module _ (r : List ℕ) (ks : List Known) (heading absent : ℕ) (output : List 
 
 -- ---- the call
 
-abbrev headingCall : List ℕ → List Known → ℕ → ℕ → List ℕ → HeadedBy
-headingCall r ks heading absent output = record { answer = headed r ks heading absent output; output = laterNodes r ks heading absent output }
-
 -- THEOREM: the call
 pub heads-call : (r : List ℕ) (ks : List Known) (heading absent : ℕ) (output : List ℕ) → HeadsCall r ks heading absent output (headingCall r ks heading absent output)
 unfolding headed laterNodes
@@ -114,8 +129,27 @@ heads-call r ks heading absent output =
           (headingOf r ks heading absent output, heads r ks heading absent output q, rw q);
     }
 
+-- THEOREM: its rows stand in their order
+pub heading-order : HeadingOrder
+unfolding headingRows row19 row8-output frameRows row20 row21 row22
+heading-order r ks heading absent output = refl
+
+-- THEOREM: what it leaves
+pub heading-leaves : (r : List ℕ) (ks : List Known) (heading absent : ℕ) (output : List ℕ) → HeadingLeaves output (headingCall r ks heading absent output)
+unfolding headed laterNodes headingOf
+heading-leaves r ks heading absent output =
+    record {
+      refusal-leaves = heads-call r ks heading absent output .refusal-leaves;
+      rest-stays = λ e. rw (unless-gives (first (headingRows r ks heading absent output)) aye aye e .0);
+      same-length = go (first (headingRows r ks heading absent output)) refl;
+    }
+  where
+    go : (o : Option Refusal) → first (headingRows r ks heading absent output) ≡ o → length (laterNodes r ks heading absent output) ≡ length output
+    go none e = rw e (omega (arith, room r ks heading absent output e, length-drop 3 output))
+    go (just why) e = rw e
+
 -- THEOREM: absent dates are never the same as given ones
-pub absent-apart : (ks : List Known) (absent : ℕ) → Silent (row19 ks absent) → AbsentApart ks absent
+pub absent-apart : (ks : List Known) (absent : ℕ) → Silent (row19 ks absent) → AbsentApart symbolDegree ks absent
 absent-apart ks absent s =
     record {
       nodes-differ = not-absent ks absent s;

@@ -9,11 +9,10 @@ use native.Mathlib.Omega.{arith}
 use lib.Dec.{eqb, ltb}
 use lib.ListN.{length, getD, take, drop}
 use borrow.Author.Tests.{ltb-true, eqb-true, lt-ltb, eq-eqb}
-use Rattle.theory.specs.Least.{some}
 use Rattle.theory.proofs.Lemmas.{or-right, or-left}
-use Rattle.marc.specs.Known.{Known, known, stringOf, entryOf, same, knownFrom, knownIn, listedBefore}
+use Rattle.marc.specs.Known.{Known, known, stringOf, entryOf, knownFrom, knownIn, listedBefore}
 use Rattle.marc.specs.Order.{before, Rising}
-use Rattle.marc.proofs.Strings.{same-true}
+use Rattle.marc.proofs.Strings.{not-before}
 
 -- what the test says of two strings that begin
 abbrev Begins : ℕ → ℕ → List ℕ → List ℕ → Type 0
@@ -67,17 +66,7 @@ module _ (ks : List Known) (rising : Rising ks) where
 
   -- LAW: no string stands twice
   pub none-twice : (j : ℕ) → j < length ks → listedBefore ks j ≡ false
-  none-twice j m = none-of j (λ i l. differ i l (same (stringOf (entryOf ks i)) (stringOf (entryOf ks j))) refl)
-    where
-      differ : (i : ℕ) → i < j → (b : Bool) → same (stringOf (entryOf ks i)) (stringOf (entryOf ks j)) ≡ b → same (stringOf (entryOf ks i)) (stringOf (entryOf ks j)) ≡ false
-      differ i l false e = e
-      differ i l true e =
-          let q = same-true (stringOf (entryOf ks i)) (stringOf (entryOf ks j)) e in
-          absurd (not-itself (stringOf (entryOf ks i)) (ap (before (stringOf (entryOf ks i))) q ∙ far j i l m))
-
-      none-of : (n : ℕ) → ((i : ℕ) → i < n → same (stringOf (entryOf ks i)) (stringOf (entryOf ks j)) ≡ false) → some n (λ i. same (stringOf (entryOf ks i)) (stringOf (entryOf ks j))) ≡ false
-      none-of zero h = refl
-      none-of (suc n) h = rw (h n (omega arith)) (none-of n (λ i l. h i (omega arith)))
+  none-twice j m = not-before ks j (λ i l e. not-itself (stringOf (entryOf ks i)) (ap (before (stringOf (entryOf ks i))) e ∙ far j i l m))
 
 -- ---- the list as it is lent
 

@@ -4,7 +4,7 @@ use mathlib.Core.Path.{_≡_, refl, sym as inv, ap, ap₂, _∙_}
 use mathlib.Core.List.{List, [], _∷_}
 use mathlib.Core.Bool.{Bool, true, false, cond, false≢true}
 use mathlib.Core.Option.{some as just, Option·some-ne-none}
-use Prim.Native.Nat.{ℕ, suc, _<_}
+use Prim.Native.Nat.{ℕ, zero, suc, _<_}
 use native.Mathlib.Decide.{decLt}
 use native.Mathlib.Omega.{arith}
 use lib.Dec.{eqb}
@@ -30,6 +30,21 @@ same-itself (x ∷ xs) = rw (eq-eqb x x refl) (same-itself xs)
 pub true-same : (xs ys : List ℕ) → xs ≡ ys → same xs ys ≡ true
 true-same xs ys e = ap (same xs) (inv e) ∙ same-itself xs
 
+pub not-same : (xs ys : List ℕ) → (xs ≡ ys → ⊥) → same xs ys ≡ false
+not-same xs ys n = go (same xs ys) refl
+  where
+    go : (b : Bool) → same xs ys ≡ b → same xs ys ≡ false
+    go true e = absurd (n (same-true xs ys e))
+    go false e = e
+
+-- LAW: a string that no earlier entry has was not listed before
+pub not-before : (ks : List Known) (j : ℕ) → ((i : ℕ) → i < j → stringOf (entryOf ks i) ≡ stringOf (entryOf ks j) → ⊥) → listedBefore ks j ≡ false
+not-before ks j h = none-of j (λ i l. not-same (stringOf (entryOf ks i)) (stringOf (entryOf ks j)) (h i l))
+  where
+    none-of : (n : ℕ) → ((i : ℕ) → i < n → same (stringOf (entryOf ks i)) (stringOf (entryOf ks j)) ≡ false) → some n (λ i. same (stringOf (entryOf ks i)) (stringOf (entryOf ks j))) ≡ false
+    none-of zero h = refl
+    none-of (suc n) h = rw (h n (omega arith)) (none-of n (λ i l. h i (omega arith)))
+
 -- the first entry with that string
 record Found (ks : List Known) (string : List ℕ) (number : ℕ) : Type 0 where
   pub index : ℕ
@@ -47,6 +62,19 @@ found (known s m ∷ ks) string n e = go (same s string) refl e (found ks string
     go false p e rest =
         let f = rest e in
         record { index = suc (f .index); inside = omega (arith, f .inside); bytes = f .bytes; number-is = f .number-is }
+
+-- LAW: the number of a string that one entry has
+pub number-listed : (ks : List Known) (string : List ℕ) (n : ℕ) → Listed ks string n → numberIn ks string ≡ just n
+unfolding numberIn
+number-listed ks string n f = go ks (f .index) (f .inside) (f .same-bytes) (f .number-is) (f .only)
+  where
+    go : (ks : List Known) (i : ℕ) → i < length ks → stringOf (entryOf ks i) ≡ string → numberOf (entryOf ks i) ≡ n
+        → ((k : ℕ) → k < length ks → stringOf (entryOf ks k) ≡ string → k ≡ i) → numberIn ks string ≡ just n
+    go [] i l e m only = absurd (omega arith)
+    go (known s k ∷ ks) zero l e m only = rw (true-same s string e) (ap just m)
+    go (known s k ∷ ks) (suc i) l e m only =
+        rw (not-same s string (λ q. omega (arith, only 0 (omega arith) q)))
+        (go ks i (omega arith) e m (λ j l q. let h = only (suc j) (omega arith) q in omega (arith, h)))
 
 -- nothing below j passes
 some-none : (j : ℕ) (b : ℕ → Bool) → some j b ≡ false → (i : ℕ) → i < j → b i ≡ false

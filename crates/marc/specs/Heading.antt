@@ -69,6 +69,11 @@ abbrev pub nodeOf : List Known → ℕ → Option (List ℕ) → ℕ
 nodeOf ks absent none = absent
 nodeOf ks absent (just string) = numberOr absent (numberIn ks string)
 
+-- What a call gives: its answer and what the output holds later.
+pub record HeadedBy : Type 0 where
+  pub answer : Answer Yes
+  pub output : List ℕ
+
 module _ (r : List ℕ) (ks : List Known) (heading absent : ℕ) (output : List ℕ) where
   unfoldable pub headingRows : List Row
   headingRows = row19 ks absent ∷ row8-output 3 output ∷ (frameRows r ++ (row20 r ∷ row21 r ∷ row22 ks r ∷ []))
@@ -86,3 +91,6 @@ module _ (r : List ℕ) (ks : List Known) (heading absent : ℕ) (output : List 
 
   unfoldable pub laterNodes : List ℕ
   laterNodes = writtenUnless (first headingRows)
+
+  abbrev pub headingCall : HeadedBy
+  headingCall = record { answer = headed; output = laterNodes }

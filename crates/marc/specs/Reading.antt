@@ -1,6 +1,6 @@
 -- What is said of records and their headings. Statements; the proofs are in proofs/.
 use mathlib.Core.Path.{_≡_}
-use mathlib.Core.List.{List, [], _∷_, _++_}
+use mathlib.Core.List.{List, [], _∷_, _++_, map}
 use mathlib.Core.Bool.{true, false, cond}
 use mathlib.Core.Option.{Option, none, some as just}
 use Prim.Native.Nat.{ℕ, _+_, _*_, _-_, _≤_, _<_}
@@ -9,13 +9,13 @@ use lib.ListN.{length, getD, drop}
 use Rattle.theory.specs.Least.{All}
 use Rattle.theory.specs.Pairs.{pair, isPair}
 use Rattle.meaning.specs.File.{symbolCount, pairCount, pairsIn}
-use Rattle.meaning.specs.Refusals.{first, SoundFile}
-use Rattle.meaning.specs.Calls.{Answer, Yes, aye, refused, gives, symbolDegree}
+use Rattle.meaning.specs.Refusals.{rowNumber, first, SoundFile}
+use Rattle.meaning.specs.Calls.{Answer, aye, refused, gives}
 use Rattle.meaning.specs.Demands.{Exactly}
 use Rattle.marc.specs.Frame.{Field, field, fieldMark, recordMark, digitsAt, baseAddress, entryCount, entryAt, fieldAt, fieldLength, fieldEnd, fieldsIn, frameRows}
 use Rattle.marc.specs.Subfields.{subfieldMark, subfield}
 use Rattle.marc.specs.Known.{Known, stringOf, numberOf, entryOf}
-use Rattle.marc.specs.Heading.{tag100, codeA, codeD, headingRows}
+use Rattle.marc.specs.Heading.{tag100, codeA, codeD, headingRows, HeadedBy}
 use Rattle.marc.specs.Plain.{Holds, tagOf, recordOf, Subfield, coded, FineSubfield, Unmarked, subfieldsBytes}
 
 -- ---- the frame
@@ -86,19 +86,53 @@ pub record Heads (r : List ℕ) (ks : List Known) (heading absent : ℕ) (nodes 
   pub dates-are : DatesNode ks absent (subfield codeD content) datesNode
   pub nodes-are : nodes ≡ heading ∷ nameNode ∷ datesNode ∷ []
 
--- What a call gives: its answer and what the output holds later.
-pub record HeadedBy : Type 0 where
-  pub answer : Answer Yes
-  pub output : List ℕ
-
 pub record HeadsCall (r : List ℕ) (ks : List Known) (heading absent : ℕ) (output : List ℕ) (given : HeadedBy) : Type 0 where
   pub refuses : Exactly (headingRows r ks heading absent output) (given .answer)
   pub refusal-leaves : (n place : ℕ) → given .answer ≡ refused n place → given .output ≡ output
   pub three-nodes : given .answer ≡ gives aye → (nodes : List ℕ) × Heads r ks heading absent nodes × (given .output ≡ nodes ++ drop 3 output)
 
+-- In which order the call's rows stand, whatever is lent: the list, the room, the seven tests of the frame, the field, the name, the strings.
+abbrev pub HeadingOrder : Type 0
+HeadingOrder = (r : List ℕ) (ks : List Known) (heading absent : ℕ) (output : List ℕ)
+    → map rowNumber (headingRows r ks heading absent output) ≡ 19 ∷ 8 ∷ 17 ∷ 17 ∷ 17 ∷ 17 ∷ 17 ∷ 17 ∷ 17 ∷ 20 ∷ 21 ∷ 22 ∷ []
+
+-- What it leaves in lent memory: a refusal the whole output, an answer all that stands behind three nodes; and no more and no less is there in any case.
+pub record HeadingLeaves (output : List ℕ) (given : HeadedBy) : Type 0 where
+  pub refusal-leaves : (n place : ℕ) → given .answer ≡ refused n place → given .output ≡ output
+  pub rest-stays : given .answer ≡ gives aye → drop 3 (given .output) ≡ drop 3 output
+  pub same-length : length (given .output) ≡ length output
+
 -- Absent dates are never the same as given ones: their nodes differ, and so in any table their degree is what a listed pair says, else 0.
-pub record AbsentApart (ks : List Known) (absent : ℕ) : Type 0 where
+pub record AbsentApart (degreeOf : (table : List ℕ) (a b : ℕ) → Answer ℕ) (ks : List Known) (absent : ℕ) : Type 0 where
   pub nodes-differ : (string : List ℕ) (node : ℕ) → Listed ks string node → node ≡ absent → ⊥
   pub unless-listed : (table string : List ℕ) (node : ℕ) → SoundFile table → absent < symbolCount table → node < symbolCount table → Listed ks string node
       → ((k l h d : ℕ) → k < pairCount table → getD (pairsIn table) k (pair 0 0 0) ≡ pair l h d → isPair l h absent node ≡ false)
-      → symbolDegree table absent node ≡ gives 0
+      → degreeOf table absent node ≡ gives 0
+
+-- ---- records as one writes them, through the whole call
+
+-- A list in which no string stands twice and none has the number of absent dates.
+pub record FineList (ks : List Known) (absent : ℕ) : Type 0 where
+  pub none-twice : (i j : ℕ) → i < j → j < length ks → stringOf (entryOf ks i) ≡ stringOf (entryOf ks j) → ⊥
+  pub none-absent : (j : ℕ) → j < length ks → numberOf (entryOf ks j) ≡ absent → ⊥
+
+-- Fields of which the first with tag 100 was written so: two indicators, bytes without a 1F, and these subfields.
+pub record Wrote100 (fs : List Field) (ss : List Subfield) : Type 0 where
+  pub one : ℕ
+  pub two : ℕ
+  pub between : List ℕ
+  pub unmarked : Unmarked between
+  pub fine : All FineSubfield ss
+  pub first-100 : FirstWith tag100 fs (one ∷ two ∷ (between ++ subfieldsBytes ss))
+
+-- Of a record with such fields, whose first a is listed and whose first d is listed or missing, with a fine list and room for three nodes: the call
+-- answers, and the output begins with the heading symbol, the name's number and the dates', or that of absent dates.
+abbrev pub ReadsWritten : List Known → ((bytes : List ℕ) (heading absent : ℕ) (output : List ℕ) → HeadedBy) → Type 0
+ReadsWritten ks call =
+    (leader leader′ : List ℕ) (fs : List Field) → Holds leader leader′ fs → (ss : List Subfield) → Wrote100 fs ss
+    → (absent : ℕ) → FineList ks absent
+    → (name : List ℕ) → firstCoded codeA ss ≡ just name → (nameNode : ℕ) → Listed ks name nameNode
+    → (datesNode : ℕ) → DatesNode ks absent (firstCoded codeD ss) datesNode
+    → (heading : ℕ) (output : List ℕ) → 3 ≤ length output
+    → let given = call (recordOf leader leader′ fs) heading absent output in
+    (given .answer ≡ gives aye) × (given .output ≡ heading ∷ nameNode ∷ datesNode ∷ drop 3 output)
