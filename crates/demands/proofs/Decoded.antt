@@ -1,20 +1,28 @@
 -- What a call for C hands over says all of its answer. A code other than 0 has the refusal's number and place, and 0 says that the pointers have what was
 -- given; a subterm has one node at least, so that its count tells it from the empty part; and each choice has a number of its own.
-use mathlib.Core.Path.{_≡_, refl, ap, subst}
+use mathlib.Core.Path.{_≡_, refl, sym as inv, ap, subst}
 use mathlib.Core.Logic.{_↔_, _⊎_, inl, inr}
 use mathlib.Core.List.{List}
 use mathlib.Core.Option.{Option, none, some as just}
 use Prim.Native.Nat.{ℕ, _+_, _*_, _≤_, _<_}
 use native.Mathlib.Omega.{arith}
 use native.Mathlib.Decide.{decLt}
+use lib.Dec.{lit≤}
 use lib.ListN.{length, drop, length-take, length-drop}
 use borrow.Author.Tests.{ne-eqb}
 use denote.Ref.{now}
 use Rattle.theory.specs.Tree.{Pattern, var, sym, encₚ}
-use Rattle.meaning.specs.Refusals.{Refusal as Given, refusal, first}
-use Rattle.meaning.specs.Calls.{Answer, gives, refusedAs, aye, degrees, isTable, symbolDegree, headingDegree, matched, written, arityBack, pairBack, Part, part, subtermRows, subterm, Nearer, theFirst, theSecond, neither, nearer}
+use Rattle.meaning.specs.Refusals.{Refusal as Given, refusal, placeOf, first}
+use Rattle.meaning.specs.Calls.{Answer, refused, gives, refusedAs, aye, degrees, isTable, symbolDegree, headingDegree, matched, written, arityBack, pairBack, Part, part, subtermRows, subterm, Nearer, theFirst, theSecond, neither, nearer}
 use Rattle.meaning.specs.Saved.{widenedCount}
+use Rattle.meaning.proofs.First.{unless-refused}
 use Rattle.meaning.proofs.Parts.{subterms}
+use Rattle.marc.specs.Known.{knownIn}
+use Rattle.marc.specs.Heading.{headingRows, headed}
+use Rattle.marc.proofs.Places.{heading-place}
+use Rattle.exchange.specs.Said.{told as toldFault, said as saidHeading}
+use Rattle.exchange.specs.declared.Headed.{Headed}
+use Rattle.exchange.specs.declared.Headed.the-variants.{Written as Read, Refused as NotRead}
 use Rattle.refusal.specs.Told.{told, refusedBy}
 use Rattle.refusal.specs.declared.Refusal.{Refusal}
 use Rattle.writer.specs.Said.{said}
@@ -39,8 +47,9 @@ use Rattle.headings.specs.Terms.{Nodes, IsPart, Subterm, IsChosen, Nearer as Ne
 use Rattle.headings.proofs.Lists.{no-subterm}
 use Rattle.capi.specs.Answers.{codeOf, coded}
 use Rattle.capi.specs.Terms.{countOf, chosen}
-use Rattle.capi.proofs.OneCapi.{Tells, code-tells}
-use Rattle.demands.specs.ForC.{answerOf, subtermOf, nearerOf}
+use Rattle.capi.specs.Marc.{highestPlace, wideCode, wideCoded}
+use Rattle.capi.proofs.OneCapi.{Tells, code-tells, wide-code-tells}
+use Rattle.demands.specs.ForC.{mostStrings, answerOf, subtermOf, nearerOf}
 use Rattle.demands.proofs.Possible.{some-calls, kept}
 
 -- ---- codes
@@ -52,11 +61,14 @@ Decodes {A} answer = (left : Answer A → A) → ((a : A) → left (gives a) ≡
 gives-decodes : {A : Type 0} (a : A) → Decodes (gives a)
 gives-decodes a left e = ap gives (e a)
 
+tells-decodes : {A : Type 0} (code : ℕ) (g : Given) (a : A) → Tells code g → answerOf code a ≡ refusedAs g
+tells-decodes code (refusal n place) a t = rw (ne-eqb code 0 (λ z. omega (arith, t .some, z)), t .low, t .high)
+
 refused-decodes : {A : Type 0} (why : Refusal) → Decodes {A = A} (refusedBy why)
 refused-decodes {A} why left e = go (told why) (code-tells why)
   where
     go : (g : Given) → Tells (codeOf g) g → answerOf (coded {A = A} (refusedAs g)) (left (refusedAs g)) ≡ refusedAs g
-    go (refusal n place) t = rw (ne-eqb (n + 65536 * place) 0 (λ z. omega (arith, t .some, z)), t .low, t .high)
+    go (refusal n place) t = tells-decodes (codeOf (refusal n place)) (refusal n place) (left (refused n place)) t
 
 -- LAW: it does of each call's answer, since every answer is one that a case says
 module _ (table : List ℕ) where
@@ -109,6 +121,27 @@ writer-decodes arities records output =
 
 pub widen-decodes : (words output : List ℕ) → Decodes (widenedCount words output)
 widen-decodes words output = subst Decodes (kept .widen words output .answers) (writings-decode (some-calls .widen words output .writing))
+
+-- LAW: .. and of an exchange record's, by a code of 64 bits, where 48 tell the place; they do with a list that can be lent
+module _ (bytes text ends numbers : List ℕ) (heading absent : ℕ) (nodes : List ℕ) (few : length (knownIn text ends numbers) ≤ mostStrings) where
+  pub place-told : (n place : ℕ) → headed bytes (knownIn text ends numbers) heading absent nodes ≡ refused n place → place ≤ highestPlace
+  unfolding headed
+  place-told n place e =
+      heading-place bytes (knownIn text ends numbers) heading absent nodes highestPlace (omega (arith, few)) (lit≤ tt) n place
+      (unless-refused (first (headingRows bytes (knownIn text ends numbers) heading absent nodes)) aye n place e)
+
+  pub record-decodes : answerOf (wideCoded (headed bytes (knownIn text ends numbers) heading absent nodes)) aye ≡ headed bytes (knownIn text ends numbers) heading absent nodes
+  record-decodes =
+      let m = kept .marc-heading bytes text ends numbers heading absent nodes .answers in
+      subst (λ a. answerOf (wideCoded a) aye ≡ a) m (go (some-calls .marcHeading bytes text ends numbers heading absent nodes .headed) m)
+    where
+      go : (h : Headed) → saidHeading h ≡ headed bytes (knownIn text ends numbers) heading absent nodes → answerOf (wideCoded (saidHeading h)) aye ≡ saidHeading h
+      go Read m = refl
+      go (NotRead why) m = of (toldFault why) m (wide-code-tells why)
+        where
+          of : (g : Given) → refusedAs g ≡ headed bytes (knownIn text ends numbers) heading absent nodes → (placeOf g ≤ highestPlace → Tells (wideCode g) g)
+              → answerOf (wideCoded (refusedAs g)) aye ≡ refusedAs g
+          of (refusal n place) m tells = tells-decodes (wideCode (refusal n place)) (refusal n place) aye (tells (place-told n place (inv m)))
 
 -- ---- a subterm by its number of nodes
 

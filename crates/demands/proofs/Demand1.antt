@@ -19,6 +19,8 @@ use Rattle.meaning.proofs.Parts.{subterms, nearest}
 use Rattle.meaning.proofs.Lengths.{leaves, lengths}
 use Rattle.meaning.proofs.RoundTrip.{round-trip}
 use Rattle.meaning.proofs.Saved.{widens}
+use Rattle.marc.specs.Heading.{headed}
+use Rattle.marc.proofs.Headings.{heading-leaves}
 use Rattle.headings.specs.Terms.{Nodes, PartOf, IsPart, Subterm, IsChosen, Nearer}
 use Rattle.demands.specs.Handed.{EmptyAt}
 use Rattle.demands.specs.Demand1.{Refuses, Demand1}
@@ -85,7 +87,7 @@ module _ (table heading : List ℕ) (one two r : Nodes) (k : Nearer table headin
 
 -- THEOREM
 pub demand1 : (H : Handing) → HandsBack H → Demand1 (meant H)
-unfolding isTable symbolDegree headingDegree matched written arityBack pairBack widenedCount
+unfolding isTable symbolDegree headingDegree matched written arityBack pairBack widenedCount headed
 demand1 H k =
     record {
       is-table = λ table. exactly _ _;
@@ -96,10 +98,12 @@ demand1 H k =
       arity-of = λ table symbol. exactly _ _;
       pair-of = λ table index. exactly _ _;
       widen = λ words output. exactly _ _;
+      marc-heading = λ bytes text ends numbers heading absent nodes. exactly _ _;
       subterm = λ table term i. empty-part table term i _ (k .subterm table term i);
       nearer = λ table heading one two. empty-choice table heading one two _ (k .nearer table heading one two);
       match-leaves = leaves;
       writer-leaves = λ arities pairs output. round-trip .read-written arities pairs output .refusal-leaves;
       widen-leaves = λ words output. widens words output .refusal-leaves;
+      heading-leaves = λ bytes text ends numbers. heading-leaves bytes _;
       lengths = lengths;
     }

@@ -2,7 +2,11 @@
 -- can be read from its code and from what the pointers have; and a refused call leaves what the promises fix for a refusal.
 use mathlib.Core.Path.{_≡_, refl, sym as inv, ap, ap₂, subst, _∙_}
 use mathlib.Core.List.{List}
-use Prim.Native.Nat.{ℕ}
+use mathlib.Core.Bool.{Bool, true, false, cond}
+use Prim.Native.Nat.{ℕ, _≤_}
+use lib.Dec.{leb}
+use lib.ListN.{length}
+use borrow.Author.Tests.{leb-true}
 use denote.Ref.{now}
 use Rattle.theory.specs.Pairs.{Pair, pair}
 use Rattle.meaning.specs.Calls.{Answer, refused, gives, Yes, aye, isTable, symbolDegree, headingDegree, Degrees, degrees, lowestIn, highestIn, matched, matchCall, laterSpans, laterSets, written, laterOutput, arityBack, pairBack, subterm, nearer}
@@ -11,19 +15,22 @@ use Rattle.meaning.specs.Saved.{widenCall, widenedCount, laterWords}
 use Rattle.meaning.proofs.Parts.{nearest as meant-nearest}
 use Rattle.records.specs.Records.{listed}
 use Rattle.headings.specs.Terms.{Nodes, Subterm, Nearer}
+use Rattle.marc.specs.Known.{knownIn}
+use Rattle.marc.specs.Heading.{headingCall}
 use Rattle.capi.specs.Answers.{coded, later, laterNumber}
 use Rattle.capi.specs.Tables.{lowerOf, higherOf, degreeOf}
 use Rattle.capi.specs.Terms.{countOf, chosen}
+use Rattle.capi.specs.Marc.{wideCoded}
 use Rattle.demands.specs.Program.{Promise}
 use Rattle.demands.specs.Public.{recordsOf}
-use Rattle.demands.specs.ForC.{Cell, CNumber, CCalls, CKept, answerOf, subtermOf, nearerOf, programOfC, InRange, Untouched, RefusedLeaves}
+use Rattle.demands.specs.ForC.{Cell, CNumber, CCalls, CKept, mostStrings, answerOf, subtermOf, nearerOf, headingOf, programOfC, InRange, Untouched, RefusedLeaves}
 use Rattle.demands.specs.Demand1.{Demand1}
 use Rattle.demands.specs.Demand2.{Demand2}
 use Rattle.demands.specs.Demand3.{Demand3}
 use Rattle.demands.specs.Further.{Further}
 use Rattle.demands.proofs.Keeps.{keeps}
 use Rattle.demands.proofs.Public.{records-list}
-use Rattle.demands.proofs.Decoded.{Decodes, table-decodes, symbols-decode, headings-decode, match-decodes, writer-decodes, arity-decodes, pair-decodes, widen-decodes, subterm-decodes, subterm-inside, nearer-decodes, chosen-few, none-chosen}
+use Rattle.demands.proofs.Decoded.{Decodes, table-decodes, symbols-decode, headings-decode, match-decodes, writer-decodes, arity-decodes, pair-decodes, widen-decodes, record-decodes, subterm-decodes, subterm-inside, nearer-decodes, chosen-few, none-chosen}
 
 -- a code and a number are read as the answer
 number-read : (c : Cell) {answer : Answer ℕ} {code : ℕ} → Decodes answer → code ≡ coded answer → c .after ≡ laterNumber answer (c .before) → answerOf code (c .after) ≡ answer
@@ -100,6 +107,24 @@ module _ (C : CCalls) (k : CKept C) where
       let p = k .widen words output in
       ap₂ (λ a l. record { answer = a; output = l }) (number-read (C .widen words output .count) (widen-decodes words output) (p .answers) (p .written-later)) (p .output-later)
 
+  records : (bytes text ends numbers : List ℕ) (heading absent : ℕ) (nodes : List ℕ)
+      → programOfC C .marcHeading bytes text ends numbers heading absent nodes ≡ headingCall bytes (knownIn text ends numbers) heading absent nodes
+  records bytes text ends numbers heading absent nodes = go (leb (length (knownIn text ends numbers)) mostStrings) refl
+    where
+      -- with a list that can be lent
+      read : length (knownIn text ends numbers) ≤ mostStrings
+          → headingOf (C .marcHeading bytes text ends numbers heading absent nodes) ≡ headingCall bytes (knownIn text ends numbers) heading absent nodes
+      read few =
+          let p = k .marc-heading bytes text ends numbers heading absent nodes few in
+          ap₂ (λ a l. record { answer = a; output = l })
+          (ap (λ c. answerOf c aye) (p .answers) ∙ record-decodes bytes text ends numbers heading absent nodes few) (p .leaves)
+
+      go : (b : Bool) → leb (length (knownIn text ends numbers)) mostStrings ≡ b
+          → cond b (headingOf (C .marcHeading bytes text ends numbers heading absent nodes)) (headingCall bytes (knownIn text ends numbers) heading absent nodes)
+          ≡ headingCall bytes (knownIn text ends numbers) heading absent nodes
+      go true e = read (leb-true (length (knownIn text ends numbers)) mostStrings e)
+      go false e = refl
+
   promise : Promise (programOfC C)
   promise =
       record {
@@ -113,6 +138,7 @@ module _ (C : CCalls) (k : CKept C) where
         arity-of = arities-back;
         pair-of = pairs-back;
         widen = widens;
+        marc-heading = records;
       }
 
   -- THEOREM: whatever the exports' promises allow, the demands hold of it
@@ -188,6 +214,8 @@ module _ (held : ℕ) where
               degree = record { before = held; after = later degreeOf answer held };
             };
         widen = λ words output. let r = number (widenedCount words output) in record { code = r .code; output = laterWords words output; count = r .number };
+        marcHeading = λ bytes text ends numbers heading absent nodes.
+            let r = headingCall bytes (knownIn text ends numbers) heading absent nodes in record { code = wideCoded (r .answer); nodes = r .output };
       }
 
   -- THEOREM: so what `c-users-have` supposes can be met
@@ -206,4 +234,5 @@ module _ (held : ℕ) where
         arity = λ table symbol. record { answers = refl; leaves = refl };
         pair = λ table index. record { answers = refl; leaves-lower = refl; leaves-higher = refl; leaves-degree = refl };
         widen = λ words output. record { answers = refl; output-later = refl; written-later = refl };
+        marc-heading = λ bytes text ends numbers heading absent nodes few. record { answers = refl; leaves = refl };
       }

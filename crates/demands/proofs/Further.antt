@@ -37,6 +37,7 @@ use Rattle.demands.proofs.Stated.{Stated, stated}
 use Rattle.demands.proofs.Richer.{loses-nothing, stays-answered}
 use Rattle.demands.proofs.NamedAlone.{named-alone}
 use Rattle.demands.proofs.NoTerm.{refuses-no-terms}
+use Rattle.demands.proofs.RecordHeadings.{record-headings}
 
 is-table : (file : List ℕ) → isTable file ≡ gives aye ↔ TableFile file
 unfolding isTable
@@ -109,4 +110,5 @@ further H k =
           (match-stated H k table₁ pattern heading cut spans sets) (match-stated H k table₂ pattern heading cut spans sets);
       widens = widens;
       as-today = as-today;
+      record-headings = record-headings H;
     }

@@ -13,6 +13,7 @@ pub mod NoTerm
 pub mod Stated
 pub mod PackedAlike
 pub mod Richer
+pub mod RecordHeadings
 pub mod Further
 pub mod Keeps
 pub mod Public
@@ -20,6 +21,8 @@ pub mod OnNumbers
 pub mod Unique
 -- every hypothesis can be met
 pub mod Handing
+pub mod Sayable
+pub mod PossibleHeading
 pub mod Possible
 pub mod Lent
 pub mod Instances
@@ -38,6 +41,7 @@ pub mod WrongAllowed
 -- a program that meets the statements keeps its promises
 pub mod Settled
 pub mod SettledFiles
+pub mod SettledRecords
 pub mod SettledMatch
 pub mod Settles
 pub mod SettledForC

@@ -7,6 +7,8 @@ use Rattle.meaning.specs.Calls.{isTable, symbolDegree, headingDegree, Matched, 
 use Rattle.meaning.specs.Tables.{writeCall}
 use Rattle.meaning.specs.Saved.{widenCall}
 use Rattle.headings.specs.Terms.{Nodes, Subterm, Nearer}
+use Rattle.marc.specs.Known.{knownIn}
+use Rattle.marc.specs.Heading.{headingCall}
 use Rattle.headings.proofs.OneTerm.{one-subterm, one-nearer}
 use Rattle.demands.specs.Program.{Program, Promise, Alike}
 
@@ -33,6 +35,7 @@ withMatch H other =
       arityOf = arityBack;
       pairOf = pairBack;
       widen = widenCall;
+      marcHeading = λ bytes text ends numbers. headingCall bytes (knownIn text ends numbers);
     }
 
 abbrev pub meant : Handing → Program
@@ -60,6 +63,7 @@ is-meant P k =
       arityOf = λ table symbol. k .arity-of table symbol i;
       pairOf = λ table index. k .pair-of table index i;
       widen = λ words output. k .widen words output i;
+      marcHeading = λ bytes text ends numbers heading absent nodes. k .marc-heading bytes text ends numbers heading absent nodes i;
     }
 
 -- LAW: what holds of the meaning's program, with the program's own two calls, holds of a program that keeps its promises
@@ -80,4 +84,6 @@ one-program P Q p q =
       arity-of = λ table symbol. p .arity-of table symbol ∙ inv (q .arity-of table symbol);
       pair-of = λ table index. p .pair-of table index ∙ inv (q .pair-of table index);
       widen = λ words output. p .widen words output ∙ inv (q .widen words output);
+      marc-heading = λ bytes text ends numbers heading absent nodes.
+          p .marc-heading bytes text ends numbers heading absent nodes ∙ inv (q .marc-heading bytes text ends numbers heading absent nodes);
     }

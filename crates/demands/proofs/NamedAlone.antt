@@ -6,6 +6,7 @@ use Rattle.meaning.specs.Refusals.{Row, rowNumber}
 use Rattle.meaning.specs.Calls.{Answer}
 use Rattle.meaning.specs.Demands.{Exactly}
 use Rattle.meaning.proofs.First.{order}
+use Rattle.marc.proofs.Headings.{heading-order}
 use Rattle.demands.specs.Program.{Program}
 use Rattle.demands.specs.Demand1.{Demand1}
 use Rattle.demands.specs.Further.{Never13, NamedThereAlone}
@@ -26,4 +27,6 @@ named-alone P d =
       arity-of = λ table symbol. never _ _ (ap (among 13) (order .back table symbol _)) (d .arity-of table symbol);
       pair-of = λ table index. never _ _ (ap (among 13) (order .back table index _)) (d .pair-of table index);
       widen = λ words output. never _ _ (ap (among 13) (order .widen words output)) (d .widen words output);
+      marc-heading = λ bytes text ends numbers heading absent nodes.
+          never _ _ (ap (among 13) (heading-order bytes _ heading absent nodes)) (d .marc-heading bytes text ends numbers heading absent nodes);
     }

@@ -64,7 +64,7 @@ same-number : (a b : ℕ) → gives a ≡ gives b → a ≡ b
 same-number a b e = cc
 
 module _ (table one two : List ℕ) (d : ℕ) (e : headingDegree table one two ≡ gives d) where
-  rows : first (degreeRows table one two) ≡ none
+  pub rows : first (degreeRows table one two) ≡ none
   unfolding headingDegree
   rows = unless-gives (first (degreeRows table one two)) _ d e .0
 
@@ -96,10 +96,12 @@ module _ (table one two : List ℕ) (d : ℕ) (e : headingDegree table one two �
       let e = ap (λ x. getD x k 0) (w .is) ∙ getD-any (enc t) k 0 (tableIn table .size) m in
       omega (arith, e, o, length-aritiesIn table (passed table (parts .0)))
 
+  -- LAW: so are two that stand at one place
+  pub both-symbols : (k : ℕ) → k < length one → length one ≡ length two → (getD one k 0 < symbolCount table) × (getD two k 0 < symbolCount table)
+  both-symbols k l m = (in-table one (q .t) (q .writes-one .holds) k l, in-table two (q .u) (q .writes-two .holds) k (omega arith))
+
   symbols : (k n : ℕ) → k < length one → length one ≡ length two → tableIn table .deg (getD one k 0) (getD two k 0) ≡ n → symbolDegree table (getD one k 0) (getD two k 0) ≡ gives n
-  symbols k n l m =
-      gives-degree table (parts .0) (getD one k 0) (getD two k 0) n
-      (in-table one (q .t) (q .writes-one .holds) k l) (in-table two (q .u) (q .writes-two .holds) k (omega arith))
+  symbols k n l m = let s = both-symbols k l m in gives-degree table (parts .0) (getD one k 0) (getD two k 0) n (s .0) (s .1)
 
   some : 0 < length one
   some = omega (arith, ap length (q .writes-one .holds .is), some-node (q .t))

@@ -7,6 +7,8 @@ use Rattle.meaning.specs.Calls.{matchCall}
 use Rattle.meaning.specs.Tables.{writeCall}
 use Rattle.meaning.specs.Saved.{widenCall}
 use Rattle.records.specs.Records.{listed}
+use Rattle.marc.specs.Known.{knownIn}
+use Rattle.marc.specs.Heading.{headingCall}
 use Rattle.demands.specs.Program.{Promise}
 use Rattle.demands.specs.Public.{Calls, Kept, recordsOf, programOf}
 use Rattle.demands.specs.Demand1.{Demand1}
@@ -36,6 +38,11 @@ module _ (C : Calls) (k : Kept C) where
   widens : (words output : List ℕ) → programOf C .widen words output ≡ widenCall words output
   widens words output = let p = k .widen words output in ap₂ (λ a l. record { answer = a; output = l }) (p .answers) (p .leaves)
 
+  headings : (bytes text ends numbers : List ℕ) (heading absent : ℕ) (nodes : List ℕ)
+      → programOf C .marcHeading bytes text ends numbers heading absent nodes ≡ headingCall bytes (knownIn text ends numbers) heading absent nodes
+  headings bytes text ends numbers heading absent nodes =
+      let p = k .marc-heading bytes text ends numbers heading absent nodes in ap₂ (λ a l. record { answer = a; output = l }) (p .answers) (p .leaves)
+
   promise : Promise (programOf C)
   promise =
       record {
@@ -49,6 +56,7 @@ module _ (C : Calls) (k : Kept C) where
         arity-of = k .arity-of;
         pair-of = k .pair-of;
         widen = widens;
+        marc-heading = headings;
       }
 
   -- THEOREM: whatever results the public promises allow, the demands hold of them

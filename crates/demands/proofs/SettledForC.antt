@@ -5,31 +5,35 @@ use mathlib.Core.Path.{_≡_, refl, sym as inv, ap, subst, _∙_}
 use mathlib.Core.List.{List, [], _∷_}
 use mathlib.Core.Logic.{_↔_, inl, inr}
 use mathlib.Core.Bool.{Bool, true, false, cond}
-use Prim.Native.Nat.{ℕ, zero, suc, _+_, _/_, _%_, _≤_, _<_}
+use Prim.Native.Nat.{ℕ, zero, suc, _+_, _*_, _/_, _%_, _≤_, _<_}
 use native.Mathlib.Omega.{arith}
 use lib.Dec.{eqb}
 use lib.ListN.{length, drop, length-take, length-drop}
-use borrow.Author.Tests.{eqb-true, eqb-false}
+use borrow.Author.Tests.{eqb-true, eqb-false, le-leb}
 use denote.Ref.{now, ptr}
 use Rattle.theory.specs.Pairs.{pair}
-use Rattle.meaning.specs.Calls.{Answer, refused, gives, aye, Part, Nearer, theFirst, theSecond, neither, lowestIn, highestIn, degrees, Degrees}
+use Rattle.meaning.specs.Calls.{Answer, refused, gives, Yes, aye, Part, Nearer, theFirst, theSecond, neither, lowestIn, highestIn, degrees, Degrees}
 use Rattle.meaning.specs.Tables.{Wrote}
 use Rattle.meaning.proofs.Parts.{nearest}
 use Rattle.table.specs.declared.read.Pair.{Pair as Record}
 use Rattle.records.specs.Records.{listed}
 use Rattle.headings.specs.Terms.{Nodes, IsPart, IsChosen}
+use Rattle.marc.specs.Known.{knownIn}
+use Rattle.marc.specs.Heading.{headingCall}
 use Rattle.capi.specs.Answers.{coded, later, laterNumber}
 use Rattle.capi.specs.Tables.{lowerOf, higherOf, degreeOf, ShxPair}
 use Rattle.capi.specs.Terms.{countOf, chosen}
 use Rattle.capi.specs.Matching.{ShxMatch}
 use Rattle.capi.specs.Writing.{ShxWriteTable}
+use Rattle.capi.specs.Marc.{highestPlace, wideCoded, ShxMarcHeading}
+use Rattle.capi.proofs.Wide.{told-itself}
 use Rattle.demands.specs.Program.{Promise}
 use Rattle.demands.specs.Public.{recordsOf}
-use Rattle.demands.specs.ForC.{Cell, CWriting, CCalls, CKept, answerOf, programOfC, subtermOf, nearerOf, InRange, Untouched, RefusedLeaves}
+use Rattle.demands.specs.ForC.{Cell, CWriting, CCalls, CKept, mostStrings, answerOf, programOfC, subtermOf, nearerOf, headingOf, InRange, Untouched, RefusedLeaves}
 use Rattle.demands.specs.Demand1.{Demand1}
 use Rattle.demands.specs.Demand2.{Demand2}
 use Rattle.demands.specs.Further.{Further}
-use Rattle.demands.proofs.Decoded.{Shown, shown}
+use Rattle.demands.proofs.Decoded.{place-told, Shown, shown}
 use Rattle.demands.proofs.Settles.{settles}
 
 -- ---- codes
@@ -77,6 +81,11 @@ degrees-back : (code low high : ℕ) (answer : Answer Degrees) → answerOf code
     → ((n place : ℕ) → answerOf code (degrees low high) ≡ refused n place → (low ≡ 0) × (high ≡ 0)) → (low ≡ lowestIn answer) × (high ≡ highestIn answer)
 degrees-back code low high (gives (degrees l h)) is none = let v = value-back code (degrees low high) _ is (degrees l h) refl in (cc, cc)
 degrees-back code low high (refused n place) is none = none n place is
+
+-- a code of 64 bits is made as others are, where 48 tell the place
+wide-is : (answer : Answer Yes) → ((n place : ℕ) → answer ≡ refused n place → place ≤ highestPlace) → coded answer ≡ wideCoded answer
+wide-is (gives a) low = refl
+wide-is (refused n place) low = ap (λ p. n + 65536 * p) (told-itself place place refl (low n place refl))
 
 -- ---- counts
 
@@ -161,6 +170,18 @@ module _ (C : CCalls) (one : Demand1 (programOfC C)) (two : Demand2 (programOfC 
       (records-back records)
       (record { answers = w .0; output-later = w .2; total-later = w .1 })
 
+  records : (bytes text ends numbers : List ℕ) (heading absent : ℕ) (nodes : List ℕ) → length (knownIn text ends numbers) ≤ mostStrings
+      → let r = C .marcHeading bytes text ends numbers heading absent nodes in ShxMarcHeading bytes text ends numbers heading absent nodes (r .code) (r .nodes)
+  records bytes text ends numbers heading absent nodes few =
+      let r = C .marcHeading bytes text ends numbers heading absent nodes in
+      let meant = headingCall bytes (knownIn text ends numbers) heading absent nodes in
+      let is : headingOf r ≡ meant
+      = ap (λ b. cond b (headingOf r) meant) (inv (le-leb (length (knownIn text ends numbers)) mostStrings few)) ∙ promised .marc-heading bytes text ends numbers heading absent nodes in
+      record {
+        answers = code-back (r .code) aye _ (ap (λ h. h .answer) is) ∙ wide-is _ (place-told bytes text ends numbers heading absent nodes few);
+        leaves = ap (λ h. h .output) is;
+      }
+
   -- THEOREM
   pub c-settles : CKept C
   c-settles =
@@ -185,4 +206,5 @@ module _ (C : CCalls) (one : Demand1 (programOfC C)) (two : Demand2 (programOfC 
         widen = λ words output.
             let w = writing-back (C .widen words output) _ (promised .widen words output) (left .widen words output) in
             record { answers = w .0; output-later = w .2; written-later = w .1 };
+        marc-heading = records;
       }

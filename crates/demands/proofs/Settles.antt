@@ -18,6 +18,7 @@ use Rattle.demands.proofs.Further.{further}
 use Rattle.demands.proofs.Keeps.{keeps}
 use Rattle.demands.proofs.Settled.{same-is-table, same-symbol-degree, same-heading-degree, settled-subterm, settled-nearer}
 use Rattle.demands.proofs.SettledFiles.{same-arity-of, same-pair-of, same-writing, same-widening}
+use Rattle.demands.proofs.SettledRecords.{same-record-heading}
 use Rattle.demands.proofs.Stated.{stated}
 use Rattle.demands.proofs.SettledMatch.{same-match}
 
@@ -55,6 +56,7 @@ module _ (P : Program) (one : Demand1 P) (two : Demand2 P) (more : Further P) wh
         arity-of = same-arity-of P M one one′ more more′;
         pair-of = same-pair-of P M one one′ more more′;
         widen = same-widening P M one one′ more more′;
+        marc-heading = same-record-heading P M one one′ more more′;
       }
 
   -- THEOREM: demand 3 follows from them

@@ -5,6 +5,7 @@ use Rattle.matches.proofs.OneMatch.{one-match}
 use Rattle.tables.proofs.OneWriting.{one-writing}
 use Rattle.records.proofs.OneRecords.{one-writing as one-of-records}
 use Rattle.saved.proofs.OneWidening.{one-widening}
+use Rattle.exchange.proofs.OneHeading.{one-heading}
 use Rattle.demands.specs.Unique.{Unique}
 
 -- THEOREM
@@ -23,4 +24,5 @@ unique =
       arity-of = one-arity;
       pair-of = one-pair-at;
       widen = one-widening;
+      marc-heading = one-heading;
     }

@@ -17,6 +17,9 @@ use Rattle.meaning.specs.Saved.{widenRows}
 use Rattle.meaning.specs.Demands.{Exactly}
 use Rattle.meaning.specs.Matching.{Leaves, Lengths}
 use Rattle.headings.specs.Terms.{Nodes}
+use Rattle.marc.specs.Known.{knownIn}
+use Rattle.marc.specs.Heading.{headingRows}
+use Rattle.marc.specs.Reading.{HeadingLeaves}
 use Rattle.demands.specs.Program.{Program}
 use Rattle.demands.specs.Handed.{EmptyAt}
 
@@ -35,6 +38,8 @@ pub record Demand1 (P : Program) : Type 0 where
   pub arity-of : (table : List ℕ) (symbol : ℕ) → Exactly (backRows table symbol (symbolCount table)) (P .arityOf table symbol)
   pub pair-of : (table : List ℕ) (index : ℕ) → Exactly (backRows table index (pairCount table)) (P .pairOf table index)
   pub widen : (words output : List ℕ) → Exactly (widenRows words output) (P .widen words output .answer)
+  pub marc-heading : (bytes text ends numbers : List ℕ) (heading absent : ℕ) (nodes : List ℕ)
+      → Exactly (headingRows bytes (knownIn text ends numbers) heading absent nodes) (P .marcHeading bytes text ends numbers heading absent nodes .answer)
   -- refusals that show in what is handed back
   pub subterm : (table : List ℕ) (term : Nodes) (i : ℕ) → EmptyAt term (P .subterm table term i) ↔ (Refuses (subtermRows table (now term)) ⊎ (length (now term) ≤ i))
   pub nearer : (table heading : List ℕ) (one two : Nodes) → EmptyAt one (P .nearer table heading one two) ↔ Refuses (nearerRows table heading (now one) (now two))
@@ -43,4 +48,5 @@ pub record Demand1 (P : Program) : Type 0 where
   pub writer-leaves : (arities : List ℕ) (pairs : List Pair) (output : List ℕ) (n place : ℕ)
       → P .writeTable arities pairs output .answer ≡ refused n place → P .writeTable arities pairs output .output ≡ output
   pub widen-leaves : (words output : List ℕ) (n place : ℕ) → P .widen words output .answer ≡ refused n place → P .widen words output .output ≡ output
+  pub heading-leaves : (bytes text ends numbers : List ℕ) (heading absent : ℕ) (nodes : List ℕ) → HeadingLeaves nodes (P .marcHeading bytes text ends numbers heading absent nodes)
   pub lengths : Lengths (P .match) (P .writeTable)

@@ -5,18 +5,21 @@ use mathlib.Core.Logic.{_↔_}
 use mathlib.Core.List.{List}
 use mathlib.Core.Bool.{cond}
 use Prim.Native.Nat.{ℕ, _+_, _*_, _/_, _%_, _≤_, _<_}
-use lib.Dec.{eqb}
+use lib.Dec.{eqb, leb}
 use lib.ListN.{length, take, drop}
 use denote.Ref.{now, ptr, name}
 use Rattle.theory.specs.Pairs.{Pair, pair}
 use Rattle.meaning.specs.Calls.{Answer, refused, gives, aye, degrees, nearerRows}
 use Rattle.table.specs.declared.read.Pair.{Pair as Record}
 use Rattle.headings.specs.Terms.{Nodes}
+use Rattle.marc.specs.Known.{knownIn}
+use Rattle.marc.specs.Heading.{HeadedBy, headingCall}
 use Rattle.capi.specs.Tables.{ShxTable, ShxSymbolDegree, ShxArity, ShxPair}
 use Rattle.capi.specs.Terms.{ShxHeadingDegree, ShxSubterm, ShxNearer}
 use Rattle.capi.specs.Matching.{ShxMatch}
 use Rattle.capi.specs.Writing.{ShxWriteTable}
 use Rattle.capi.specs.Saving.{ShxWiden}
+use Rattle.capi.specs.Marc.{highestPlace, ShxMarcHeading}
 use Rattle.demands.specs.Program.{Program}
 use Rattle.demands.specs.Demand1.{Refuses}
 use Rattle.demands.specs.Public.{recordsOf}
@@ -28,7 +31,8 @@ pub record Cell : Type 0 where
   pub before : ℕ
   pub after : ℕ
 
--- A code, with one number, with a pair's three, with a match's two and its buffers later, with an output later and how much was written.
+-- A code, with one number, with a pair's three, with a match's two and its buffers later, with an output later and how much was written,
+-- with nodes later.
 pub record CNumber : Type 0 where
   pub code : ℕ
   pub number : Cell
@@ -51,6 +55,15 @@ pub record CWriting : Type 0 where
   pub output : List ℕ
   pub count : Cell
 
+pub record CHeading : Type 0 where
+  pub code : ℕ
+  pub nodes : List ℕ
+
+-- A list of known strings that can be lent: each string has a place of 48 bits. The ends and numbers of a longer one have more
+-- than 2^50 bytes, which no memory holds.
+abbrev pub mostStrings : ℕ
+mostStrings = 1 + highestPlace
+
 -- What each export returned and left, for everything that was lent to it.
 pub record CCalls : Type 0 where
   pub table : (table : List ℕ) → ℕ
@@ -63,8 +76,9 @@ pub record CCalls : Type 0 where
   pub arity : (table : List ℕ) (symbol : ℕ) → CNumber
   pub pair : (table : List ℕ) (index : ℕ) → CPair
   pub widen : (words output : List ℕ) → CWriting
+  pub marcHeading : (bytes text ends numbers : List ℕ) (heading absent : ℕ) (nodes : List ℕ) → CHeading
 
--- Each is one that the export's promise allows.
+-- Each is one that the export's promise allows; on an exchange record, with any list that can be lent.
 pub record CKept (C : CCalls) : Type 0 where
   pub table : (table : List ℕ) → ShxTable table (C .table table)
   pub symbol-degree : (table : List ℕ) (a b : ℕ) → let r = C .symbolDegree table a b in ShxSymbolDegree table a b (r .number .before) (r .code) (r .number .after)
@@ -79,6 +93,8 @@ pub record CKept (C : CCalls) : Type 0 where
   pub pair : (table : List ℕ) (index : ℕ)
       → let r = C .pair table index in ShxPair table index (r .lower .before) (r .higher .before) (r .degree .before) (r .code) (r .lower .after) (r .higher .after) (r .degree .after)
   pub widen : (words output : List ℕ) → let r = C .widen words output in ShxWiden words output (r .count .before) (r .code) (r .output) (r .count .after)
+  pub marc-heading : (bytes text ends numbers : List ℕ) (heading absent : ℕ) (nodes : List ℕ) → length (knownIn text ends numbers) ≤ mostStrings
+      → let r = C .marcHeading bytes text ends numbers heading absent nodes in ShxMarcHeading bytes text ends numbers heading absent nodes (r .code) (r .nodes)
 
 -- ---- how a caller reads them
 
@@ -98,6 +114,10 @@ subtermOf term index count = cond (eqb count 0) (partFrom term 0 0) (partFrom te
 abbrev pub nearerOf : Nodes → Nodes → ℕ → Nodes
 nearerOf one two which = cond (eqb which 1) one (cond (eqb which 2) two (partFrom one 0 0))
 
+-- A heading that was read, by its code.
+abbrev pub headingOf : CHeading → HeadedBy
+headingOf r = record { answer = answerOf (r .code) aye; output = r .nodes }
+
 -- What is read so can be: the list has so many nodes from the index on; and no other number is returned for a candidate, 0 just where something is
 -- refused.
 pub record InRange (C : CCalls) : Type 0 where
@@ -105,6 +125,7 @@ pub record InRange (C : CCalls) : Type 0 where
   pub candidates : (table heading one two : List ℕ) → C .nearer table heading one two ≤ 2
   pub neither : (table heading one two : List ℕ) → C .nearer table heading one two ≡ 0 ↔ Refuses (nearerRows table heading one two)
 
+-- With a list that cannot be lent there is no call for C; the program is what the call means there.
 abbrev pub programOfC : CCalls → Program
 programOfC C =
     record {
@@ -122,6 +143,9 @@ programOfC C =
       pairOf = λ table index.
           let r = C .pair table index in answerOf (r .code) (pair (r .lower .after) (r .higher .after) (r .degree .after));
       widen = λ words output. let r = C .widen words output in record { answer = answerOf (r .code) (r .count .after); output = r .output };
+      marcHeading = λ bytes text ends numbers heading absent nodes.
+          cond (leb (length (knownIn text ends numbers)) mostStrings) (headingOf (C .marcHeading bytes text ends numbers heading absent nodes))
+          (headingCall bytes (knownIn text ends numbers) heading absent nodes);
     }
 
 -- ---- what a refused call leaves behind its pointers

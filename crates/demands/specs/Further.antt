@@ -1,4 +1,4 @@
--- What else is said of a program's calls: on tables, on headings and their parts, on the match, on saved answers.
+-- What else is said of a program's calls: on tables, on headings and their parts, on the match, on saved answers, on exchange records.
 use mathlib.Core.Path.{_≡_}
 use mathlib.Core.Logic.{_↔_}
 use mathlib.Core.List.{List, _++_}
@@ -22,6 +22,7 @@ use Rattle.demands.specs.Program.{Program}
 use Rattle.demands.specs.Handed.{HandedBack}
 use Rattle.demands.specs.NoTerm.{RefusesNoTerms}
 use Rattle.demands.specs.Richer.{LosesNothing}
+use Rattle.demands.specs.RecordHeadings.{RecordHeadings}
 
 -- ---- headings, by what the program itself says of symbols and of headings
 
@@ -53,6 +54,7 @@ pub record NamedThereAlone (P : Program) : Type 0 where
   pub arity-of : (table : List ℕ) (symbol : ℕ) → Never13 (P .arityOf table symbol)
   pub pair-of : (table : List ℕ) (index : ℕ) → Never13 (P .pairOf table index)
   pub widen : (words output : List ℕ) → Never13 (P .widen words output .answer)
+  pub marc-heading : (bytes text ends numbers : List ℕ) (heading absent : ℕ) (nodes : List ℕ) → Never13 (P .marcHeading bytes text ends numbers heading absent nodes .answer)
 
 pub record Further (P : Program) : Type 0 where
   -- tables
@@ -94,3 +96,5 @@ pub record Further (P : Program) : Type 0 where
   pub as-today : (table pattern heading : List ℕ) (cut : ℕ) (spans sets output : List ℕ) → tableIn table .size ≤ savedRoom
       → (d : Degrees) → P .match table pattern heading cut spans sets .answer ≡ gives d → (n : ℕ) → length sets ≡ setWords * n → length sets ≤ length output
       → P .widen (leftThen (tableIn table) cut (facesIn table pattern heading) n) output .output ≡ P .match table pattern heading cut spans sets .sets ++ drop (length sets) output
+  -- exchange records
+  pub record-headings : RecordHeadings P

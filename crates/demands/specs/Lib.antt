@@ -1,6 +1,6 @@
 -- The demands on the whole program, over any program whatever. `Program` says what a program is and what one promises; `Demand1`, `Demand2` and
 -- `Demand3` are the three demands; `Further` is what else is said of the calls, with `Handed` on lists that are handed back, `NoTerm` on lists that are
--- refused, and `Richer` on two tables.
+-- refused, `Richer` on two tables, and `RecordHeadings` on headings read from exchange records.
 -- `Public` ties all of it to the public calls: any results that their promises allow are such a program, with one of the two writers; `OnNumbers` has the
 -- other. `ForC` does so for the calls as C sees them.
 --
@@ -14,6 +14,7 @@ pub mod Demand1
 pub mod Demand2
 pub mod Demand3
 pub mod Richer
+pub mod RecordHeadings
 pub mod Further
 pub mod Public
 pub mod OnNumbers

@@ -1,5 +1,6 @@
 -- A program: what each call gives and leaves in lent memory, for everything that can be lent to it. The subterm and the nearer hand back a list of the
--- caller's, as a reference: what it holds and where it lies. Reading back is two calls; the last one is the converter of saved answers.
+-- caller's, as a reference: what it holds and where it lies. Reading back is two calls; the last two are the converter of saved answers, and the call that
+-- reads a heading from an exchange record by a list of known strings.
 use mathlib.Core.Path.{_≡_}
 use mathlib.Core.List.{List}
 use Prim.Native.Nat.{ℕ}
@@ -9,6 +10,8 @@ use Rattle.meaning.specs.Calls.{Answer, Yes, isTable, symbolDegree, headingDegr
 use Rattle.meaning.specs.Tables.{Wrote, writeCall}
 use Rattle.meaning.specs.Saved.{widenCall}
 use Rattle.headings.specs.Terms.{Nodes, Subterm, Nearer}
+use Rattle.marc.specs.Known.{knownIn}
+use Rattle.marc.specs.Heading.{HeadedBy, headingCall}
 
 pub record Program : Type 0 where
   pub isTable : (table : List ℕ) → Answer Yes
@@ -21,6 +24,7 @@ pub record Program : Type 0 where
   pub arityOf : (table : List ℕ) (symbol : ℕ) → Answer ℕ
   pub pairOf : (table : List ℕ) (index : ℕ) → Answer Pair
   pub widen : (words output : List ℕ) → Wrote
+  pub marcHeading : (bytes text ends numbers : List ℕ) (heading absent : ℕ) (nodes : List ℕ) → HeadedBy
 
 -- What the program promises: that each call gives, and leaves in lent memory, what the meaning says; and that a list is handed back as the promises of
 -- the two calls say.
@@ -35,6 +39,8 @@ pub record Promise (P : Program) : Type 0 where
   pub arity-of : (table : List ℕ) (symbol : ℕ) → P .arityOf table symbol ≡ arityBack table symbol
   pub pair-of : (table : List ℕ) (index : ℕ) → P .pairOf table index ≡ pairBack table index
   pub widen : (words output : List ℕ) → P .widen words output ≡ widenCall words output
+  pub marc-heading : (bytes text ends numbers : List ℕ) (heading absent : ℕ) (nodes : List ℕ)
+      → P .marcHeading bytes text ends numbers heading absent nodes ≡ headingCall bytes (knownIn text ends numbers) heading absent nodes
 
 -- Two programs that no caller can tell apart: every call gives the same; of a list that is handed back, what it holds and where it lies. (The prover gives
 -- a part of a list a name of its own besides.)
@@ -51,3 +57,5 @@ pub record Alike (P Q : Program) : Type 0 where
   pub arity-of : (table : List ℕ) (symbol : ℕ) → P .arityOf table symbol ≡ Q .arityOf table symbol
   pub pair-of : (table : List ℕ) (index : ℕ) → P .pairOf table index ≡ Q .pairOf table index
   pub widen : (words output : List ℕ) → P .widen words output ≡ Q .widen words output
+  pub marc-heading : (bytes text ends numbers : List ℕ) (heading absent : ℕ) (nodes : List ℕ)
+      → P .marcHeading bytes text ends numbers heading absent nodes ≡ Q .marcHeading bytes text ends numbers heading absent nodes

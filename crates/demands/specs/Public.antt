@@ -18,9 +18,12 @@ use Rattle.matches.specs.Matching.{MatchHeading}
 use Rattle.tables.specs.Writing.{WriteTable}
 use Rattle.records.specs.Records.{WriteRecords}
 use Rattle.saved.specs.Widening.{Widen}
+use Rattle.exchange.specs.Said.{said as saidHeading}
+use Rattle.exchange.specs.Heading.{ReadHeading}
+use Rattle.exchange.specs.declared.Headed.{Headed}
 use Rattle.demands.specs.Program.{Program}
 
--- What a match, and a call that writes, returned and left.
+-- What a match, a call that writes, and one that reads a heading, returned and left.
 pub record Matching : Type 0 where
   pub outcome : Outcome
   pub spans : List ℕ
@@ -29,6 +32,10 @@ pub record Matching : Type 0 where
 pub record Written : Type 0 where
   pub writing : Writing
   pub output : List ℕ
+
+pub record ReadFrom : Type 0 where
+  pub headed : Headed
+  pub nodes : List ℕ
 
 -- What each call returned, for everything that was lent to it. A subterm and the nearer are handed back as references. There are two writers: one takes
 -- records, the other numbers, three to a pair.
@@ -44,6 +51,7 @@ pub record Calls : Type 0 where
   pub arityOf : List ℕ → ℕ → ArityAnswer
   pub pairOf : List ℕ → ℕ → PairAnswer
   pub widen : (words output : List ℕ) → Written
+  pub marcHeading : (bytes text ends numbers : List ℕ) (heading absent : ℕ) (nodes : List ℕ) → ReadFrom
 
 -- Each result is one that the call's promise allows.
 pub record Kept (C : Calls) : Type 0 where
@@ -61,6 +69,8 @@ pub record Kept (C : Calls) : Type 0 where
   pub arity-of : (table : List ℕ) (symbol : ℕ) → ArityOf table symbol (C .arityOf table symbol)
   pub pair-of : (table : List ℕ) (index : ℕ) → PairAt table index (C .pairOf table index)
   pub widen : (words output : List ℕ) → let w = C .widen words output in Widen words output (w .writing) (w .output)
+  pub marc-heading : (bytes text ends numbers : List ℕ) (heading absent : ℕ) (nodes : List ℕ)
+      → let r = C .marcHeading bytes text ends numbers heading absent nodes in ReadHeading bytes text ends numbers heading absent nodes (r .headed) (r .nodes)
 
 -- The records of pairs.
 abbrev pub recordOf : Pair → Record
@@ -86,4 +96,6 @@ programOf C =
       arityOf = λ table symbol. saidArity (C .arityOf table symbol);
       pairOf = λ table index. saidPair (C .pairOf table index);
       widen = λ words output. let w = C .widen words output in record { answer = said (w .writing); output = w .output };
+      marcHeading = λ bytes text ends numbers heading absent nodes.
+          let r = C .marcHeading bytes text ends numbers heading absent nodes in record { answer = saidHeading (r .headed); output = r .nodes };
     }

@@ -18,6 +18,8 @@ use Rattle.matches.specs.Matching.{MatchHeading}
 use Rattle.tables.specs.Writing.{WriteTable}
 use Rattle.records.specs.Records.{WriteRecords}
 use Rattle.saved.specs.Widening.{Widen}
+use Rattle.exchange.specs.Heading.{ReadHeading}
+use Rattle.exchange.specs.declared.Headed.{Headed}
 
 pub record Unique : Type 0 where
   pub is-table : (table : List ℕ) (r s : TableAnswer) → IsTable table r → IsTable table s → r ≡ s
@@ -38,3 +40,5 @@ pub record Unique : Type 0 where
   pub arity-of : (table : List ℕ) (symbol : ℕ) (r s : ArityAnswer) → ArityOf table symbol r → ArityOf table symbol s → r ≡ s
   pub pair-of : (table : List ℕ) (index : ℕ) (r s : PairAnswer) → PairAt table index r → PairAt table index s → r ≡ s
   pub widen : (words output : List ℕ) (r s : Writing) (later after : List ℕ) → Widen words output r later → Widen words output s after → (r ≡ s) × (later ≡ after)
+  pub marc-heading : (bytes text ends numbers : List ℕ) (heading absent : ℕ) (nodes : List ℕ) (r s : Headed) (later after : List ℕ)
+      → ReadHeading bytes text ends numbers heading absent nodes r later → ReadHeading bytes text ends numbers heading absent nodes s after → (r ≡ s) × (later ≡ after)

@@ -1,5 +1,5 @@
 -- What is proved of the definitions in specs/: strings (`Strings`, `Order`), the frame (`Frames`), subfields (`Parts`), the heading (`Headings`, `OneHeads`), and
--- that a record as one writes it is read as it was written (`Digits`, `Entries`, `Plain`), through the whole call too (`Written`).
+-- that a record as one writes it is read as it was written (`Digits`, `Entries`, `Plain`), through the whole call too (`Written`). `Places`: how high places are.
 pub mod Strings
 pub mod Order
 pub mod Frames
@@ -10,3 +10,4 @@ pub mod Digits
 pub mod Entries
 pub mod Plain
 pub mod Written
+pub mod Places
