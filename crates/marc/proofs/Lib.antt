@@ -1,5 +1,7 @@
 -- What is proved of the definitions in specs/: strings (`Strings`, `Order`), the frame (`Frames`), subfields (`Parts`), the heading (`Headings`, `OneHeads`), and
 -- that a record as one writes it is read as it was written (`Digits`, `Entries`, `Plain`), through the whole call too (`Written`). `Places`: how high places are.
+-- What is proved of the definitions in specs/: strings (`Strings`, `Order`), the frame (`Frames`), subfields (`Parts`), the heading (`Headings`), and that a
+-- record as one writes it is read as it was written (`Digits`, `Entries`, `Plain`); for the program the records of an input (`Streams`).
 pub mod Strings
 pub mod Order
 pub mod Frames
@@ -11,3 +13,4 @@ pub mod Entries
 pub mod Plain
 pub mod Written
 pub mod Places
+pub mod Streams
