@@ -11,13 +11,23 @@ use Rattle.meaning.specs.Calls.{Answer, unless}
 use Rattle.marc.specs.Known.{Known, knownIn, row19}
 use Rattle.marc.specs.Frame.{frameRows}
 use Rattle.marc.specs.Heading.{nameIn, datesIn, nodeOf, row20, row21, row22, headingRows, headingOf, headed, laterNodes}
-use Rattle.exchange.specs.Said.{told, said}
+use Rattle.known_strings.specs.Checks.{MayHalve, CheckedAs}
+use Rattle.known_strings.specs.declared.check.Checked.{Checked}
+use Rattle.known_strings.specs.declared.check.Checked.the-variants.{Bad, Rising, Unordered}
+use Rattle.exchange.specs.Said.{told}
 use Rattle.exchange.specs.Looking.{recordRows, RecordLooks}
 use Rattle.exchange.specs.Heading.{ReadHeading}
 use Rattle.exchange.specs.declared.Fault.{Fault}
 use Rattle.exchange.specs.declared.Fault.the-variants.{List as ListFault, Room}
 use Rattle.exchange.specs.declared.Headed.the-variants.{Written, Refused}
 use Rattle.exchange.specs.declared.Looked.the-variants.{Nodes}
+
+-- LAW: what is said of a list that has no bad entry
+pub no-bad : (text ends numbers : List ℕ) (absent : ℕ) (checked : Checked) → ((entry : ℕ) → checked ≡ Bad entry → ⊥) → CheckedAs text ends numbers absent checked
+    → (row19 (knownIn text ends numbers) absent ≡ row 19 none) × MayHalve text ends numbers checked
+no-bad text ends numbers absent (Bad entry) n h = absurd (n entry refl)
+no-bad text ends numbers absent Rising n h = h
+no-bad text ends numbers absent Unordered n h = (h, tt)
 
 -- three stores
 pub stored : (l : List ℕ) (a b c : ℕ) → 3 ≤ length l → set (set (set l 0 a) 1 b) 2 c ≡ (a ∷ b ∷ c ∷ []) ++ drop 3 l
@@ -35,26 +45,22 @@ module _ (bytes text ends numbers : List ℕ) (heading absent : ℕ) (nodes : Li
   unfolding headed laterNodes
   refuses why e = record { answers = rw e; leaves = rw e }
 
-  silent : (o : Row) (rows : List Row) → rowPlace o ≡ none → first (o ∷ rows) ≡ first rows
-  silent (row n none) rows e = refl
-  silent (row n (just i)) rows e = absurd (Option·some-ne-none i e)
-
   -- LAW: 19
   pub bad-list : (entry : ℕ) → row19 ks absent ≡ row 19 (just entry) → first (headingRows bytes ks heading absent nodes) ≡ just (refusal 19 entry)
   unfolding headingRows
   bad-list entry e = rw e
 
-  module _ (list-fine : rowPlace (row19 ks absent) ≡ none) where
+  module _ (list-fine : row19 ks absent ≡ row 19 none) where
     -- LAW: 8
     pub no-room : length nodes < 3 → first (headingRows bytes ks heading absent nodes) ≡ just (refusal 8 0)
     unfolding headingRows row8-output
-    no-room l = silent (row19 ks absent) (row8-output 3 nodes ∷ (frameRows bytes ++ (row20 bytes ∷ row21 bytes ∷ row22 ks bytes ∷ []))) list-fine ∙ rw (lt-ltb (length nodes) 3 l)
+    no-room l = rw (list-fine, lt-ltb (length nodes) 3 l)
 
     module _ (room : 3 ≤ length nodes) where
       -- LAW: then the rows of the record
       pub rows-left : first (headingRows bytes ks heading absent nodes) ≡ first (recordRows bytes ks)
       unfolding headingRows row8-output recordRows
-      rows-left = silent (row19 ks absent) (row8-output 3 nodes ∷ (frameRows bytes ++ (row20 bytes ∷ row21 bytes ∷ row22 ks bytes ∷ []))) list-fine ∙ rw (le-ltb (length nodes) 3 room)
+      rows-left = rw (list-fine, le-ltb (length nodes) 3 room)
 
       -- LAW: no row holds: the three nodes
       pub writes : (name dates : ℕ) → RecordLooks bytes ks absent (Nodes name dates)

@@ -2,21 +2,27 @@
 // The call takes any bytes and any lists; its answer, and what it leaves in lent memory, are fixed by its promise in specs/.
 ghost use mathlib.Core.Path.{_≡_};
 ghost use mathlib.Core.Option.{none};
-ghost use Rattle.meaning.specs.Refusals.{numberOf, placeOf, row, rowPlace};
-ghost use Rattle.table.specs.Places.{placeIn};
+ghost use Rattle.meaning.specs.Refusals.{numberOf, placeOf, row};
 ghost use Rattle.marc.specs.Subfields.{subfield};
 ghost use Rattle.marc.specs.Known.{knownIn, row19};
+ghost use Rattle.known_strings.specs.Checks.{MayHalve, CheckedAs};
 ghost use Rattle.exchange.specs.Said.{told};
 ghost use Rattle.exchange.specs.Looking.{PartIs, FieldLooks, RecordLooks};
 ghost use Rattle.exchange.specs.Heading.{ReadHeading};
-use known_strings::Sought;
-use known_strings::check_list;
-use known_strings::number_of;
+use known_strings::check::Checked;
+use known_strings::check::check_list;
+use known_strings::seek::Sought;
+use known_strings::seek::number_of;
 use marc_record::fields::Span;
 use marc_record::fields::find_100;
 use marc_record::fields::find_text;
 use marc_record::frame::check_frame;
 use table::rules::Place;
+
+// The codes of the two subfields.
+const NAME: u8 = b'a';
+
+const DATES: u8 = b'd';
 
 // Why no heading is read.
 pub enum Fault {
@@ -67,6 +73,13 @@ impl Fault {
     }
 }
 
+// What goes with a list of known strings: the heading symbol, the number of absent dates, and what the list's test says of it.
+pub struct Given {
+    pub heading: u16,
+    pub absent: u16,
+    pub checked: Checked,
+}
+
 pub enum Headed {
     Written,
     Refused(Fault),
@@ -88,12 +101,20 @@ enum Part {
     Number(u16),
 }
 
-fn look_up(field: &[u8], code: u8, text: &[u8], ends: &[u32], numbers: &[u16]) -> Part
+fn look_up(
+    field: &[u8],
+    code: u8,
+    text: &[u8],
+    ends: &[u32],
+    numbers: &[u16],
+    checked: Checked,
+) -> Part
+    requires { ⌜ MayHalve (now text) (now ends) (now numbers) checked ⌝ }
     ensures { λ r. ⌜ PartIs (knownIn (now (text .entry)) (now (ends .entry)) (now (numbers .entry))) (subfield code (now (field .entry))) r ⌝ }
 {
     match find_text(field, code) {
         Span::Missing => Part::Absent,
-        Span::Of(start, end) => match number_of(text, ends, numbers, &field[start..end]) {
+        Span::Of(start, end) => match number_of(text, ends, numbers, checked, &field[start..end]) {
             Sought::Unlisted => Part::Unlisted,
             Sought::Number(number) => Part::Number(number),
         },
@@ -101,14 +122,16 @@ fn look_up(field: &[u8], code: u8, text: &[u8], ends: &[u32], numbers: &[u16]) -
 }
 
 // The name and the dates of a field.
-fn read_field(field: &[u8], text: &[u8], ends: &[u32], numbers: &[u16], absent: u16) -> Looked
-    ensures { λ r. ⌜ FieldLooks (now (field .entry)) (knownIn (now (text .entry)) (now (ends .entry)) (now (numbers .entry))) absent r ⌝ }
+fn read_field(field: &[u8], text: &[u8], ends: &[u32], numbers: &[u16], given: Given) -> Looked
+    requires { ⌜ MayHalve (now text) (now ends) (now numbers) (given .checked) ⌝ }
+    ensures { λ r. ⌜ FieldLooks (now (field .entry)) (knownIn (now (text .entry)) (now (ends .entry)) (now (numbers .entry))) (given .absent) r ⌝ }
 {
-    match look_up(field, 97, text, ends, numbers) {
+    let checked = given.checked;
+    match look_up(field, NAME, text, ends, numbers, checked) {
         Part::Absent => Looked::Refused(Fault::NoName),
         Part::Unlisted => Looked::Refused(Fault::UnlistedName),
-        Part::Number(name) => match look_up(field, 100, text, ends, numbers) {
-            Part::Absent => Looked::Nodes(name, absent),
+        Part::Number(name) => match look_up(field, DATES, text, ends, numbers, checked) {
+            Part::Absent => Looked::Nodes(name, given.absent),
             Part::Unlisted => Looked::Refused(Fault::UnlistedDates),
             Part::Number(dates) => Looked::Nodes(name, dates),
         },
@@ -116,38 +139,38 @@ fn read_field(field: &[u8], text: &[u8], ends: &[u32], numbers: &[u16], absent: 
 }
 
 // The name and the dates of a record's first 100 field.
-fn read_record(bytes: &[u8], text: &[u8], ends: &[u32], numbers: &[u16], absent: u16) -> Looked
-    ensures { λ r. ⌜ RecordLooks (now (bytes .entry)) (knownIn (now (text .entry)) (now (ends .entry)) (now (numbers .entry))) absent r ⌝ }
+fn read_record(bytes: &[u8], text: &[u8], ends: &[u32], numbers: &[u16], given: Given) -> Looked
+    requires { ⌜ MayHalve (now text) (now ends) (now numbers) (given .checked) ⌝ }
+    ensures { λ r. ⌜ RecordLooks (now (bytes .entry)) (knownIn (now (text .entry)) (now (ends .entry)) (now (numbers .entry))) (given .absent) r ⌝ }
 {
     match check_frame(bytes) {
         Place::At(place) => Looked::Refused(Fault::Frame(place)),
         Place::Nowhere => match find_100(bytes) {
             Span::Missing => Looked::Refused(Fault::NoField),
-            Span::Of(start, end) => read_field(&bytes[start..end], text, ends, numbers, absent),
+            Span::Of(start, end) => read_field(&bytes[start..end], text, ends, numbers, given),
         },
     }
 }
 
-// The heading of a record, by a list that was checked before.
+// The heading of a record, by a list that has no bad entry.
 fn read_checked(
     bytes: &[u8],
     text: &[u8],
     ends: &[u32],
     numbers: &[u16],
-    heading: u16,
-    absent: u16,
+    given: Given,
     nodes: &mut [u16],
 ) -> Headed
-    requires { ⌜ rowPlace (row19 (knownIn (now text) (now ends) (now numbers)) absent) ≡ none ⌝ }
-    ensures { λ r. ⌜ ReadHeading (now (bytes .entry)) (now (text .entry)) (now (ends .entry)) (now (numbers .entry)) heading absent (now (nodes .entry)) r (now (nodes .exit)) ⌝ }
+    requires { ⌜ (row19 (knownIn (now text) (now ends) (now numbers)) (given .absent) ≡ row 19 none) × MayHalve (now text) (now ends) (now numbers) (given .checked) ⌝ }
+    ensures { λ r. ⌜ ReadHeading (now (bytes .entry)) (now (text .entry)) (now (ends .entry)) (now (numbers .entry)) (given .heading) (given .absent) (now (nodes .entry)) r (now (nodes .exit)) ⌝ }
 {
     if nodes.len() < 3 {
         return Headed::Refused(Fault::Room);
     }
-    match read_record(bytes, text, ends, numbers, absent) {
+    match read_record(bytes, text, ends, numbers, given) {
         Looked::Refused(why) => Headed::Refused(why),
         Looked::Nodes(name, dates) => {
-            nodes[0] = heading;
+            nodes[0] = given.heading;
             nodes[1] = name;
             nodes[2] = dates;
             Headed::Written
@@ -155,23 +178,22 @@ fn read_checked(
     }
 }
 
-// The heading of a record, where the list's first bad entry is known, if it has one: so many records can be read by a list that is tested once.
+// The heading of a record, by a list of which the test's answer is given: so many records can be read by a list that is tested once.
 pub fn read_known(
     bytes: &[u8],
     text: &[u8],
     ends: &[u32],
     numbers: &[u16],
-    checked: Place,
-    heading: u16,
-    absent: u16,
+    given: Given,
     nodes: &mut [u16],
 ) -> Headed
-    requires { ⌜ row19 (knownIn (now text) (now ends) (now numbers)) absent ≡ row 19 (placeIn checked) ⌝ }
-    ensures { λ r. ⌜ ReadHeading (now (bytes .entry)) (now (text .entry)) (now (ends .entry)) (now (numbers .entry)) heading absent (now (nodes .entry)) r (now (nodes .exit)) ⌝ }
+    requires { ⌜ CheckedAs (now text) (now ends) (now numbers) (given .absent) (given .checked) ⌝ }
+    ensures { λ r. ⌜ ReadHeading (now (bytes .entry)) (now (text .entry)) (now (ends .entry)) (now (numbers .entry)) (given .heading) (given .absent) (now (nodes .entry)) r (now (nodes .exit)) ⌝ }
 {
+    let checked = given.checked;
     match checked {
-        Place::At(entry) => Headed::Refused(Fault::List(entry)),
-        Place::Nowhere => read_checked(bytes, text, ends, numbers, heading, absent, nodes),
+        Checked::Bad(entry) => Headed::Refused(Fault::List(entry)),
+        _ => read_checked(bytes, text, ends, numbers, given, nodes),
     }
 }
 
@@ -188,5 +210,16 @@ pub fn read_heading(
     ensures { λ r. ⌜ ReadHeading (now (bytes .entry)) (now (text .entry)) (now (ends .entry)) (now (numbers .entry)) heading absent (now (nodes .entry)) r (now (nodes .exit)) ⌝ }
 {
     let checked = check_list(text, ends, numbers, absent);
-    read_known(bytes, text, ends, numbers, checked, heading, absent, nodes)
+    read_known(
+        bytes,
+        text,
+        ends,
+        numbers,
+        Given {
+            heading,
+            absent,
+            checked,
+        },
+        nodes,
+    )
 }

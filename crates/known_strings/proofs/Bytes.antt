@@ -3,15 +3,17 @@ use mathlib.Core.Path.{_≡_, refl, sym as inv, ap, ap₂, _∙_}
 use mathlib.Core.List.{List, [], _∷_}
 use mathlib.Core.Bool.{Bool, true, false, _&&_}
 use Prim.Native.Nat.{ℕ, suc, _+_, _-_, _≤_, _<_}
-use native.Mathlib.Decide.{decLt}
 use native.Mathlib.Numerals.{add-one}
 use native.Mathlib.Omega.{arith}
 use borrow.Author.Tests.{lt-ltb, le-ltb, eq-eqb, ne-eqb}
-use lib.Dec.{eqb, ltb}
+use lib.Dec.{eqb}
 use lib.ListN.{length, getD, drop, drop-of-length-le}
 use lib.Seq.{drop-cons}
 use Rattle.marc.specs.Known.{same}
 use Rattle.marc.specs.Order.{before}
+use Rattle.known_strings.specs.Compared.{ComparedAs}
+use Rattle.known_strings.specs.declared.compare.Order.{Order}
+use Rattle.known_strings.specs.declared.compare.Order.the-variants.{Before, Same, After}
 
 -- LAW: what is left begins with the byte there
 pub left-is : (xs : List ℕ) (k : ℕ) → k < length xs → drop k xs ≡ getD xs k 0 ∷ drop (k + 1) xs
@@ -50,13 +52,7 @@ module _ (xs ys : List ℕ) (k : ℕ) (l : k < length xs) (m : k < length ys) wh
       go : before (getD xs k 0 ∷ drop (k + 1) xs) (getD ys k 0 ∷ drop (k + 1) ys) ≡ true
       go = rw (lt-ltb (getD xs k 0) (getD ys k 0) e)
 
-  pub before-higher : getD ys k 0 < getD xs k 0 → before (drop k xs) (drop k ys) ≡ false
-  before-higher e = both-left before ∙ go
-    where
-      go : before (getD xs k 0 ∷ drop (k + 1) xs) (getD ys k 0 ∷ drop (k + 1) ys) ≡ false
-      go = rw (le-ltb (getD xs k 0) (getD ys k 0) (omega arith), ne-eqb (getD xs k 0) (getD ys k 0) (λ q. omega arith))
-
-  pub before-goes : getD xs k 0 ≡ getD ys k 0 → before (drop k xs) (drop k ys) ≡ before (drop (k + 1) xs) (drop (k + 1) ys)
+  before-goes : getD xs k 0 ≡ getD ys k 0 → before (drop k xs) (drop k ys) ≡ before (drop (k + 1) xs) (drop (k + 1) ys)
   before-goes e = both-left before ∙ go
     where
       go : before (getD xs k 0 ∷ drop (k + 1) xs) (getD ys k 0 ∷ drop (k + 1) ys) ≡ before (drop (k + 1) xs) (drop (k + 1) ys)
@@ -66,16 +62,16 @@ module _ (xs ys : List ℕ) (k : ℕ) (l : k < length xs) (m : k < length ys) wh
 pub same-ends : (xs ys : List ℕ) (k : ℕ) → length xs ≤ k → length ys ≤ k → same (drop k xs) (drop k ys) ≡ true
 same-ends xs ys k l m = ap₂ same (drop-of-length-le xs l) (drop-of-length-le ys m)
 
--- LAW: the second has ended, the first has not; the first has ended
-pub before-longer : (xs ys : List ℕ) (k : ℕ) → k < length xs → length ys ≤ k → before (drop k xs) (drop k ys) ≡ false
-before-longer xs ys k l m = ap₂ before (left-is xs k l) (drop-of-length-le ys m)
+-- LAW: where both have the same byte, what is left decides
+pub goes-on : (xs ys : List ℕ) (k : ℕ) → k < length xs → k < length ys → getD xs k 0 ≡ getD ys k 0 → (r : Order) → ComparedAs (drop (k + 1) xs) (drop (k + 1) ys) r
+    → ComparedAs (drop k xs) (drop k ys) r
+goes-on xs ys k l m e Before p = before-goes xs ys k l m e ∙ p
+goes-on xs ys k l m e Same p = left-is xs k l ∙ ap₂ _∷_ e p ∙ inv (left-is ys k m)
+goes-on xs ys k l m e After p = before-goes ys xs k m l (inv e) ∙ p
 
-pub before-ends : (xs ys : List ℕ) (k : ℕ) → length xs ≡ k → before (drop k xs) (drop k ys) ≡ ltb (length xs) (length ys)
-before-ends xs ys k e = go (decLt k (length ys))
-  where
-    nil : drop k xs ≡ []
-    nil = drop-of-length-le xs {i = k} (omega arith)
+-- LAW: the first has ended, and the second has not; both have
+pub ends-first : (xs ys : List ℕ) (k : ℕ) → length xs ≤ k → k < length ys → before (drop k xs) (drop k ys) ≡ true
+ends-first xs ys k l m = ap₂ before (drop-of-length-le xs l) (left-is ys k m)
 
-    go : Dec (k < length ys) → before (drop k xs) (drop k ys) ≡ ltb (length xs) (length ys)
-    go (yes m) = ap₂ before nil (left-is ys k m) ∙ inv (lt-ltb (length xs) (length ys) (omega arith))
-    go (no m) = ap₂ before nil (drop-of-length-le ys {i = k} (omega arith)) ∙ inv (le-ltb (length xs) (length ys) (omega arith))
+pub both-end : (xs ys : List ℕ) (k : ℕ) → length xs ≤ k → length ys ≤ k → drop k xs ≡ drop k ys
+both-end xs ys k l m = drop-of-length-le xs l ∙ inv (drop-of-length-le ys m)

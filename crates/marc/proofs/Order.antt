@@ -1,18 +1,19 @@
--- In a list that rises no string stands twice: the order is passed on, and no string stands before itself.
-use mathlib.Core.Path.{_≡_, refl, ap, _∙_}
+-- Where strings rise none stands twice: the order is passed on, and no string stands before itself.
+use mathlib.Core.Path.{_≡_, refl, sym as inv, ap, _∙_}
 use mathlib.Core.Logic.{_⊎_, inl, inr}
 use mathlib.Core.List.{List, [], _∷_}
 use mathlib.Core.Bool.{Bool, true, false, _&&_, _||_, false≢true}
 use Prim.Native.Nat.{ℕ, zero, suc, _-_, _<_}
-use native.Mathlib.Decide.{decLt, ℕ-discrete}
+use native.Mathlib.Decide.{decLt}
 use native.Mathlib.Omega.{arith}
 use lib.Dec.{eqb, ltb}
 use lib.ListN.{length, getD, take, drop}
 use borrow.Author.Tests.{ltb-true, eqb-true, lt-ltb, eq-eqb}
+use Rattle.theory.specs.Least.{some}
 use Rattle.theory.proofs.Lemmas.{or-right, or-left}
-use Rattle.marc.specs.Known.{Known, known, stringOf, entryOf, knownFrom, knownIn, listedBefore}
-use Rattle.marc.specs.Order.{before, Rising}
-use Rattle.marc.proofs.Strings.{not-before}
+use Rattle.marc.specs.Known.{known, entryOf, same, knownFrom, knownIn}
+use Rattle.marc.specs.Order.{before, Rises}
+use Rattle.marc.proofs.Strings.{same-true}
 
 -- what the test says of two strings that begin
 abbrev Begins : ℕ → ℕ → List ℕ → List ℕ → Type 0
@@ -39,8 +40,8 @@ not-itself (a ∷ xs) e = go (begins a a xs xs e) (not-itself xs)
     go (inl l) never = omega arith
     go (inr q) never = never (q .1)
 
--- the order is passed on
-passed-on : (xs ys zs : List ℕ) → before xs ys ≡ true → before ys zs ≡ true → before xs zs ≡ true
+-- LAW: the order is passed on
+pub passed-on : (xs ys zs : List ℕ) → before xs ys ≡ true → before ys zs ≡ true → before xs zs ≡ true
 passed-on [] [] zs p q = absurd (false≢true p)
 passed-on [] (y ∷ ys) [] p q = absurd (false≢true q)
 passed-on [] (y ∷ ys) (z ∷ zs) p q = refl
@@ -54,19 +55,38 @@ passed-on (x ∷ xs) (y ∷ ys) (z ∷ zs) p q = begun x z xs zs (go (begins x y
     go (inr a) (inl b) on = inl (omega (arith, a .0))
     go (inr a) (inr b) on = inr (a .0 ∙ b .0, on (a .1) (b .1))
 
-module _ (ks : List Known) (rising : Rising ks) where
-  far : (j i : ℕ) → i < j → j < length ks → before (stringOf (entryOf ks i)) (stringOf (entryOf ks j)) ≡ true
+-- LAW: a string that stands before another, or after it, is not the same
+pub lower-differs : (xs ys : List ℕ) → before xs ys ≡ true → same xs ys ≡ false
+lower-differs xs ys p = go (same xs ys) refl
+  where
+    go : (b : Bool) → same xs ys ≡ b → same xs ys ≡ false
+    go true e = absurd (not-itself xs (ap (before xs) (same-true xs ys e) ∙ p))
+    go false e = e
+
+pub higher-differs : (xs ys : List ℕ) → before ys xs ≡ true → same xs ys ≡ false
+higher-differs xs ys p = go (same xs ys) refl
+  where
+    go : (b : Bool) → same xs ys ≡ b → same xs ys ≡ false
+    go true e = absurd (not-itself ys (ap (before ys) (inv (same-true xs ys e)) ∙ p))
+    go false e = e
+
+module _ (string : ℕ → List ℕ) (n : ℕ) (rising : Rises string n) where
+  -- LAW: of any two strings the earlier one stands before the other
+  pub far : (j i : ℕ) → i < j → j < n → before (string i) (string j) ≡ true
   far zero i l m = absurd (omega arith)
-  far (suc j) i l m = go (ℕ-discrete i j) (decLt i j) (λ l. far j i l (omega arith))
+  far (suc j) i l m = go (decLt i j) (λ l. far j i l (omega arith))
     where
-      go : Dec (i ≡ j) → Dec (i < j) → (i < j → before (stringOf (entryOf ks i)) (stringOf (entryOf ks j)) ≡ true) → before (stringOf (entryOf ks i)) (stringOf (entryOf ks (suc j))) ≡ true
-      go (yes e) d on = rw e (rising j m)
-      go (no e) (yes d) on = passed-on (stringOf (entryOf ks i)) (stringOf (entryOf ks j)) (stringOf (entryOf ks (suc j))) (on d) (rising j m)
-      go (no e) (no d) on = absurd (e (omega arith))
+      go : Dec (i < j) → (i < j → before (string i) (string j) ≡ true) → before (string i) (string (suc j)) ≡ true
+      go (yes d) on = passed-on (string i) (string j) (string (suc j)) (on d) (rising j m)
+      go (no d) on = let e : i ≡ j = omega arith in rw e (rising j m)
 
   -- LAW: no string stands twice
-  pub none-twice : (j : ℕ) → j < length ks → listedBefore ks j ≡ false
-  none-twice j m = not-before ks j (λ i l e. not-itself (stringOf (entryOf ks i)) (ap (before (stringOf (entryOf ks i))) e ∙ far j i l m))
+  pub none-twice : (j : ℕ) → j < n → some j (λ i. same (string i) (string j)) ≡ false
+  none-twice j m = none-of j (λ i l. lower-differs (string i) (string j) (far j i l m))
+    where
+      none-of : (k : ℕ) → ((i : ℕ) → i < k → same (string i) (string j) ≡ false) → some k (λ i. same (string i) (string j)) ≡ false
+      none-of zero h = refl
+      none-of (suc k) h = rw (h k (omega arith)) (none-of k (λ i l. h i (omega arith)))
 
 -- ---- the list as it is lent
 

@@ -1,11 +1,9 @@
--- Lists whose strings rise: code sees in one walk that none stands twice, and can look a string up by halving. No promise rests on this.
+-- Strings that rise: code sees in one walk that none stands twice, and can look a string up by halving. No promise rests on this.
 use mathlib.Core.Path.{_≡_}
 use mathlib.Core.List.{List, [], _∷_}
 use mathlib.Core.Bool.{Bool, true, false, _&&_, _||_}
 use Prim.Native.Nat.{ℕ, suc, _<_}
 use lib.Dec.{eqb, ltb}
-use lib.ListN.{length}
-use Rattle.marc.specs.Known.{Known, stringOf, entryOf}
 
 -- The first string stands before the second: byte by byte, and one that ends first stands first.
 abbrev pub before : List ℕ → List ℕ → Bool
@@ -14,5 +12,6 @@ before [] (b ∷ bs) = true
 before (a ∷ xs) [] = false
 before (a ∷ xs) (b ∷ bs) = ltb a b || (eqb a b && before xs bs)
 
-abbrev pub Rising : List Known → Type 0
-Rising ks = (j : ℕ) → suc j < length ks → before (stringOf (entryOf ks j)) (stringOf (entryOf ks (suc j))) ≡ true
+-- Each of the first n strings stands before the next.
+abbrev pub Rises : (ℕ → List ℕ) → ℕ → Type 0
+Rises string n = (j : ℕ) → suc j < n → before (string j) (string (suc j)) ≡ true

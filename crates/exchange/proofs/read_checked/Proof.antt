@@ -14,7 +14,7 @@ use Rattle.exchange.proofs.read_checked.Tie as tie
 returns : tie.Need-returns
 returns c =
     let a = c .before .before .before .before .before .before .args in
-    refuses (now (a .bytes)) (now (a .text)) (now (a .ends)) (now (a .numbers)) (a .heading) (a .absent) (now (a .nodes)) Room (no-room (now (a .bytes)) (now (a .text)) (now (a .ends)) (now (a .numbers)) (a .heading) (a .absent) (now (a .nodes)) (c .before .before .before .before .before .before .pre) (omega arith))
+    refuses (now (a .bytes)) (now (a .text)) (now (a .ends)) (now (a .numbers)) (a .given .heading) (a .given .absent) (now (a .nodes)) Room (no-room (now (a .bytes)) (now (a .text)) (now (a .ends)) (now (a .numbers)) (a .given .heading) (a .given .absent) (now (a .nodes)) (c .before .before .before .before .before .before .pre .0) (omega arith))
 
 read-record-requires : tie.Need-read-record-requires
 read-record-requires c κs = search needs
@@ -29,7 +29,7 @@ slice-write-nodes : tie.Need-slice-write-nodes
 slice-write-nodes c = search needs
 
 slice-write-nodes-2 : tie.Need-slice-write-nodes-2
-slice-write-nodes-2 c = let a = c .before .before .before .before .before .before .before .before .before .before .args in omega (arith, length-set (now (a .nodes)) 0 (a .heading))
+slice-write-nodes-2 c = let a = c .before .before .before .before .before .before .before .before .before .before .args in omega (arith, length-set (now (a .nodes)) 0 (a .given .heading))
 
 slice-write-nodes-3 : tie.Need-slice-write-nodes-3
 slice-write-nodes-3 c = search needs
@@ -38,8 +38,8 @@ returns-2 : tie.Need-returns-2
 returns-2 c =
     let a = c .before .before .before .before .before .before .before .before .before .before .args in
     let ks = knownIn (now (a .text)) (now (a .ends)) (now (a .numbers)) in
-    let found = subst (RecordLooks (now (a .bytes)) ks (a .absent)) (c .before .why .given .1) (c .before .before .before .read-record .ensures) in
-    refuses (now (a .bytes)) (now (a .text)) (now (a .ends)) (now (a .numbers)) (a .heading) (a .absent) (now (a .nodes)) _ (rows-left (now (a .bytes)) (now (a .text)) (now (a .ends)) (now (a .numbers)) (a .heading) (a .absent) (now (a .nodes)) (c .before .before .before .before .before .before .before .before .before .before .pre) (omega arith) ∙ found)
+    let found = subst (RecordLooks (now (a .bytes)) ks (a .given .absent)) (c .before .why .given .1) (c .before .before .before .read-record .ensures) in
+    refuses (now (a .bytes)) (now (a .text)) (now (a .ends)) (now (a .numbers)) (a .given .heading) (a .given .absent) (now (a .nodes)) _ (rows-left (now (a .bytes)) (now (a .text)) (now (a .ends)) (now (a .numbers)) (a .given .heading) (a .given .absent) (now (a .nodes)) (c .before .before .before .before .before .before .before .before .before .before .pre .0) (omega arith) ∙ found)
 
 same-length : tie.Need-same-length
 same-length c = search needs
@@ -48,8 +48,8 @@ returns-3 : tie.Need-returns-3
 returns-3 c =
     let a = c .before .before .before .before .before .before .before .before .before .before .args in
     let ks = knownIn (now (a .text)) (now (a .ends)) (now (a .numbers)) in
-    let found = subst (RecordLooks (now (a .bytes)) ks (a .absent)) (c .before .name .given .1) (c .before .before .before .read-record .ensures) in
-    writes (now (a .bytes)) (now (a .text)) (now (a .ends)) (now (a .numbers)) (a .heading) (a .absent) (now (a .nodes)) (c .before .before .before .before .before .before .before .before .before .before .pre) (omega arith) _ _ found
+    let found = subst (RecordLooks (now (a .bytes)) ks (a .given .absent)) (c .before .name .given .1) (c .before .before .before .read-record .ensures) in
+    writes (now (a .bytes)) (now (a .text)) (now (a .ends)) (now (a .numbers)) (a .given .heading) (a .given .absent) (now (a .nodes)) (c .before .before .before .before .before .before .before .before .before .before .pre .0) (omega arith) _ _ found
 
 pub read-checked-spec : {M : Type 1} → statement M
 read-checked-spec =

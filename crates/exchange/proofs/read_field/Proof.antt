@@ -55,7 +55,7 @@ returns-3 c =
     let ks = knownIn (now (a .text)) (now (a .ends)) (now (a .numbers)) in
     let f = now (a .field) in
     let name = subst (PartIs ks (subfield codeA f)) (c .before .before .before .before .name .given .1) (c .before .before .before .before .before .before .look-up .ensures) in
-    no-dates f ks (name .0) (name .1) _ (name .2) (a .absent) (subst (PartIs ks (subfield codeD f)) (c .enum-told3 .given .1) (c .before .before .look-up2 .ensures))
+    no-dates f ks (name .0) (name .1) _ (name .2) (a .given .absent) (subst (PartIs ks (subfield codeD f)) (c .enum-told3 .given .1) (c .before .before .look-up2 .ensures))
 
 returns-4 : tie.Need-returns-4
 returns-4 c =
@@ -73,7 +73,7 @@ returns-5 c =
     let f = now (a .field) in
     let name = subst (PartIs ks (subfield codeA f)) (c .before .before .before .before .before .name .given .1) (c .before .before .before .before .before .before .before .look-up .ensures) in
     let dates = subst (PartIs ks (subfield codeD f)) (c .before .dates .given .1) (c .before .before .before .look-up2 .ensures) in
-    both-listed f ks (name .0) (name .1) _ (name .2) (dates .0) (dates .1) (a .absent) _ (dates .2)
+    both-listed f ks (name .0) (name .1) _ (name .2) (dates .0) (dates .1) (a .given .absent) _ (dates .2)
 
 pub read-field-spec : {M : Type 1} → statement M
 read-field-spec =

@@ -74,7 +74,7 @@ returns-3 : tie.Need-returns-3
 returns-3 c =
     let a = c .before .before .before .before .before .before .before .before .before .before .before .before .before .args in
     let ks = knownIn (now (a .text)) (now (a .ends)) (now (a .numbers)) in
-    looks-in (now (a .bytes)) ks (framed (c .before .before .before .before .before .before)) _ (found (c .before .before)) (a .absent) (c .read-field .result) (c .read-field .ensures)
+    looks-in (now (a .bytes)) ks (framed (c .before .before .before .before .before .before)) _ (found (c .before .before)) (a .given .absent) (c .read-field .result) (c .read-field .ensures)
 
 pub read-record-spec : {M : Type 1} → statement M
 read-record-spec =

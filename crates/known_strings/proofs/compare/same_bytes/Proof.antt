@@ -7,8 +7,8 @@ use denote.Ref.{now}
 use lib.ListN.{length, drop}
 use Rattle.marc.specs.Known.{same}
 use Rattle.known_strings.proofs.Bytes.{unlike, same-stops, same-goes, same-ends}
-use Rattle.known_strings.proofs.same_bytes.Statement.{statement}
-use Rattle.known_strings.proofs.same_bytes.Tie as tie
+use Rattle.known_strings.proofs.compare.same_bytes.Statement.{statement}
+use Rattle.known_strings.proofs.compare.same_bytes.Tie as tie
 
 abbrev Inv-loop : tie.InvT-loop
 Inv-loop one two n k₀ k = (n ≡ length one) × (n ≡ length two) × (k ≤ n) × (same (drop k one) (drop k two) ≡ same one two)

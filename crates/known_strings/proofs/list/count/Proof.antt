@@ -3,8 +3,8 @@ use borrow.Author.Needs.{needs}
 use native.Mathlib.Omega.{arith}
 use denote.Ref.{now}
 use Rattle.known_strings.proofs.Entries.{fewer-ends, fewer-numbers}
-use Rattle.known_strings.proofs.count.Statement.{statement}
-use Rattle.known_strings.proofs.count.Tie as tie
+use Rattle.known_strings.proofs.list.count.Statement.{statement}
+use Rattle.known_strings.proofs.list.count.Tie as tie
 
 returns : tie.Need-returns
 returns c = let a = c .before .args in (omega arith, omega arith, fewer-ends (now (a .ends)) (now (a .numbers)) (omega arith))

@@ -4,8 +4,8 @@ use Prim.Native.Nat.{_-_}
 use native.Mathlib.Omega.{arith}
 use denote.Ref.{now}
 use Rattle.known_strings.proofs.Entries.{begins-behind}
-use Rattle.known_strings.proofs.begin_of.Statement.{statement}
-use Rattle.known_strings.proofs.begin_of.Tie as tie
+use Rattle.known_strings.proofs.list.begin_of.Statement.{statement}
+use Rattle.known_strings.proofs.list.begin_of.Tie as tie
 
 returns : tie.Need-returns
 returns c = search needs
