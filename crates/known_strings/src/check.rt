@@ -1,7 +1,7 @@
 // Which entry may not be listed: its string was listed before, or its number is that of absent dates. A list whose strings rise is walked
-// twice; in any other each string is held against those before it.
+// twice; in any other a string is held against those before it, but for most that are new the slots say so at first sight.
 ghost use mathlib.Core.Path.{_≡_};
-ghost use mathlib.Core.Bool.{true};
+ghost use mathlib.Core.Bool.{true, false};
 ghost use mathlib.Core.Option.{none};
 ghost use Prim.Native.Nat.{_≤_, _<_};
 ghost use lib.Dec.{eqb};
@@ -16,6 +16,8 @@ use crate::compare::same_bytes;
 use crate::list::count;
 use crate::list::part;
 use crate::list::string_at;
+use crate::slots::free_slots;
+use crate::slots::slot_of;
 use table::rules::Place;
 
 pub enum Checked {
@@ -85,19 +87,33 @@ fn was_listed(text: &[u8], ends: &[u32], j: usize) -> bool
     false
 }
 
-// The first of n entries that is bad, each held against those before it.
+// Whether string j was listed before, where the strings so far have not taken its slot, or have.
+fn is_repeated(text: &[u8], ends: &[u32], j: usize, taken: u8) -> bool
+    requires { ⌜ (j < length (now ends)) × (taken ≡ 0 → listedAbove (now text) (now ends) j ≡ false) ⌝ }
+    ensures { λ r. ⌜ r ≡ listedAbove (now (text .entry)) (now (ends .entry)) j ⌝ }
+{
+    if taken == 0 {
+        return false;
+    }
+    was_listed(text, ends, j)
+}
+
+// The first of n entries that is bad. A string is held against those before it only where one of them has its slot.
 fn bad_entry(text: &[u8], ends: &[u32], numbers: &[u16], n: usize, absent: u16) -> Place
     requires { ⌜ (n ≤ length (now ends)) × (n ≤ length (now numbers)) ⌝ }
     ensures { λ r. ⌜ placeIn r ≡ leastBelow n (badIn (now (text .entry)) (now (ends .entry)) (now (numbers .entry)) absent) ⌝ }
 {
+    let mut slots = free_slots();
     let mut j: usize = 0;
     while j < n {
-        if was_listed(text, ends, j) {
+        let slot = slot_of(string_at(text, ends, j));
+        if is_repeated(text, ends, j, slots[slot]) {
             return Place::At(j);
         }
         if numbers[j] == absent {
             return Place::At(j);
         }
+        slots[slot] = 1;
         j += 1;
     }
     Place::Nowhere

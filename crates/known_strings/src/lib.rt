@@ -3,3 +3,4 @@ pub mod check;
 pub mod compare;
 pub mod list;
 pub mod seek;
+pub mod slots;

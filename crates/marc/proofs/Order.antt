@@ -13,7 +13,7 @@ use Rattle.theory.specs.Least.{some}
 use Rattle.theory.proofs.Lemmas.{or-right, or-left}
 use Rattle.marc.specs.Known.{known, entryOf, same, knownFrom, knownIn}
 use Rattle.marc.specs.Order.{before, Rises}
-use Rattle.marc.proofs.Strings.{same-true}
+use Rattle.marc.proofs.Strings.{same-true, none-same}
 
 -- what the test says of two strings that begin
 abbrev Begins : ℕ → ℕ → List ℕ → List ℕ → Type 0
@@ -82,11 +82,7 @@ module _ (string : ℕ → List ℕ) (n : ℕ) (rising : Rises string n) where
 
   -- LAW: no string stands twice
   pub none-twice : (j : ℕ) → j < n → some j (λ i. same (string i) (string j)) ≡ false
-  none-twice j m = none-of j (λ i l. lower-differs (string i) (string j) (far j i l m))
-    where
-      none-of : (k : ℕ) → ((i : ℕ) → i < k → same (string i) (string j) ≡ false) → some k (λ i. same (string i) (string j)) ≡ false
-      none-of zero h = refl
-      none-of (suc k) h = rw (h k (omega arith)) (none-of k (λ i l. h i (omega arith)))
+  none-twice j m = none-same string j (λ i l e. not-itself (string i) (ap (before (string i)) e ∙ far j i l m))
 
 -- ---- the list as it is lent
 

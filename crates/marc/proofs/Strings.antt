@@ -37,11 +37,11 @@ not-same xs ys n = go (same xs ys) refl
     go true e = absurd (n (same-true xs ys e))
     go false e = e
 
--- LAW: a string that no earlier entry has was not listed before
-pub not-before : (ks : List Known) (j : ℕ) → ((i : ℕ) → i < j → stringOf (entryOf ks i) ≡ stringOf (entryOf ks j) → ⊥) → listedBefore ks j ≡ false
-not-before ks j h = none-of j (λ i l. not-same (stringOf (entryOf ks i)) (stringOf (entryOf ks j)) (h i l))
+-- LAW: a string that none before it is, is the same as none of them
+pub none-same : (string : ℕ → List ℕ) (j : ℕ) → ((i : ℕ) → i < j → string i ≡ string j → ⊥) → some j (λ i. same (string i) (string j)) ≡ false
+none-same string j h = none-of j (λ i l. not-same (string i) (string j) (h i l))
   where
-    none-of : (n : ℕ) → ((i : ℕ) → i < n → same (stringOf (entryOf ks i)) (stringOf (entryOf ks j)) ≡ false) → some n (λ i. same (stringOf (entryOf ks i)) (stringOf (entryOf ks j))) ≡ false
+    none-of : (n : ℕ) → ((i : ℕ) → i < n → same (string i) (string j) ≡ false) → some n (λ i. same (string i) (string j)) ≡ false
     none-of zero h = refl
     none-of (suc n) h = rw (h n (omega arith)) (none-of n (λ i l. h i (omega arith)))
 

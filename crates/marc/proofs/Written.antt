@@ -13,11 +13,11 @@ use Rattle.meaning.specs.Calls.{gives, aye}
 use Rattle.meaning.proofs.First.{Silent, first-append, none-below, silent-first}
 use Rattle.marc.specs.Frame.{frameRows}
 use Rattle.marc.specs.Subfields.{subfieldMark, subfield}
-use Rattle.marc.specs.Known.{Known, numberOf, entryOf, badEntry, row19}
+use Rattle.marc.specs.Known.{Known, stringOf, numberOf, entryOf, badEntry, row19}
 use Rattle.marc.specs.Heading.{tag100, codeA, codeD, firstWith, thenIn, field100, nameIn, datesIn, row20, row21, row22, unlisted, nodeOf, headingRows, headingOf, headed, laterNodes, headingCall}
 use Rattle.marc.specs.Plain.{recordOf, subfieldsBytes}
 use Rattle.marc.specs.Reading.{firstCoded, Listed, DatesNode, FineList, ReadsWritten}
-use Rattle.marc.proofs.Strings.{not-before, number-listed}
+use Rattle.marc.proofs.Strings.{none-same, number-listed}
 use Rattle.marc.proofs.Headings.{with-first}
 use Rattle.marc.proofs.Parts.{reads-subfields}
 use Rattle.marc.proofs.Plain.{reads-plain}
@@ -27,7 +27,7 @@ pub fine-list : (ks : List Known) (absent : ℕ) → FineList ks absent → Sile
 unfolding row19
 fine-list ks absent f =
     none-below (badEntry ks absent) (length ks)
-    (λ j l. rw (not-before ks j (λ i m. f .none-twice i j m l), ne-eqb (numberOf (entryOf ks j)) absent (f .none-absent j l)))
+    (λ j l. rw (none-same (λ i. stringOf (entryOf ks i)) j (λ i m. f .none-twice i j m l), ne-eqb (numberOf (entryOf ks j)) absent (f .none-absent j l)))
 
 -- ---- the call
 
