@@ -3,12 +3,12 @@
 use mathlib.Core.Path.{_≡_, refl}
 use mathlib.Core.List.{List, [], _∷_, _++_}
 use mathlib.Core.Bool.{true, false}
-use mathlib.Core.Option.{none}
+use mathlib.Core.Option.{none, some as just}
 use Prim.Native.Nat.{ℕ, _+_, _*_, _≤_, _<_}
 use native.Mathlib.Nat.{not-suc-le-zero}
 use native.Mathlib.Omega.{arith}
 use lib.Dec.{lit<, lit≤}
-use lib.ListN.{length, getD}
+use lib.ListN.{length, getD, take}
 use Rattle.theory.specs.Tree.{sym, ∅ₚ, stands}
 use Rattle.theory.specs.Table.{Richer, degree}
 use Rattle.theory.specs.Pairs.{pair, isPair}
@@ -29,8 +29,14 @@ use Rattle.meaning.proofs.RoundTrip.{round-trip}
 use Rattle.meaning.proofs.Examples.{T, arities, pairs, p, h}
 use Rattle.meaning.proofs.Wrong.{P, H, writes-P, writes-H}
 use Rattle.meaning.specs.Saved.{savedRoom, leftThen}
+use Rattle.marc.specs.Frame.{digitsAt, valueAt, fieldsIn, frameRows}
+use Rattle.marc.specs.Subfields.{textOf, subfield}
+use Rattle.marc.specs.Known.{knownIn, numberIn, row19}
+use Rattle.marc.specs.Heading.{firstWith, field100, nameIn, datesIn, row20, row21, row22, headingRows, headingOf, headed, laterNodes}
+use Rattle.marc.specs.Plain.{recordOf}
 use Rattle.demands.proofs.WrongRicher.{apart, near, added}
 use Rattle.demands.proofs.Lent.{noSpans, noSets}
+use Rattle.demands.proofs.RecordExample.{text, ends, numbers, bytes as dated, undated}
 
 -- what the listing asks, at a cut, of buffers that have just the room
 abbrev asked : ℕ → Type 0
@@ -141,3 +147,17 @@ unfolding
     leftThen matched matchRows inputRows searchRows facesIn packedCount tableRows row1-short row1-offsets row2 row3 row4 row5 row6 row7 row8 row9 row10 tableIn aritiesIn pairsIn
     patternOf termOf parse parseRow walk several
 met-saved = (omega arith, refl, refl, refl)
+
+-- Further, exchange records: one with dates and one without, read by one list, and a table that lists no pair of their last nodes; and a list with an entry
+-- that may not be listed. (That written records can be as is supposed is in `RecordExample`.)
+abbrev unpaired : List ℕ
+unpaired = fileOf (2 ∷ 0 ∷ 0 ∷ 0 ∷ 0 ∷ []) []
+
+pub met-records : let ks = knownIn text ends numbers in (headed dated ks 0 4 (zeros 3) ≡ gives aye) × (headed undated ks 0 4 (zeros 3) ≡ gives aye)
+    × (datesIn dated ≡ just (49 ∷ [])) × (datesIn undated ≡ none) × (pairCount unpaired ≡ 0)
+    × (headingDegree unpaired (take 3 (laterNodes undated ks 0 4 (zeros 3))) (take 3 (laterNodes dated ks 0 4 (zeros 3))) ≡ gives 0)
+    × (headed [] (knownIn [] (0 ∷ 0 ∷ []) numbers) 0 4 (zeros 3) ≡ refused 19 1)
+unfolding
+    headed laterNodes headingOf headingRows row19 row8-output frameRows row20 row21 row22 recordOf digitsAt valueAt fieldsIn firstWith field100 nameIn datesIn subfield textOf knownIn numberIn fileOf headingDegree degreeRows tableRows row1-short row1-offsets row2 row3 row4
+    row6 row7 tableIn aritiesIn pairsIn patternOf termOf parse parseRow walk several degree
+met-records = (refl, refl, refl, refl, refl, refl, refl)

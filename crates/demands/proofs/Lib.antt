@@ -25,6 +25,7 @@ pub mod Sayable
 pub mod PossibleHeading
 pub mod Possible
 pub mod Lent
+pub mod RecordExample
 pub mod Instances
 -- the calls for C are such a program
 pub mod Decoded
@@ -36,6 +37,7 @@ pub mod WrongHanded
 pub mod WrongAbsent
 pub mod WrongPlaces
 pub mod WrongOwn
+pub mod WrongRecords
 pub mod WrongRicher
 pub mod WrongAllowed
 -- a program that meets the statements keeps its promises

@@ -5,8 +5,9 @@
 -- other. `ForC` does so for the calls as C sees them.
 --
 -- Each is one record, a statement a field. What a statement says of one result, or of two, is in words of the crate `meaning`: specs/Refusals (rows),
--- specs/Buffers (reading an answer), specs/Demands, specs/Tables, specs/Parts, specs/Matching, specs/TopCut. proofs/Keeps has the one theorem, that a
--- program which keeps its promises meets them all; proofs/Settles the other direction, that a program which meets them keeps its promises.
+-- specs/Buffers (reading an answer), specs/Demands, specs/Tables, specs/Parts, specs/Matching, specs/TopCut; what it says of an exchange record, in words of
+-- the crate `marc`, specs/Reading. proofs/Keeps has the one theorem, that a program which keeps its promises meets them all; proofs/Settles the other
+-- direction, that a program which meets them keeps its promises.
 pub mod Program
 pub mod Handed
 pub mod NoTerm

@@ -6,7 +6,7 @@ use lib.ListN.{length, getD}
 use Rattle.known_strings.specs.Lent.{stringIn}
 
 abbrev pub slotCount : ℕ
-slotCount = 4096
+slotCount = 8192
 
 -- the slot that further bytes lead to
 abbrev pub slotFrom : ℕ → List ℕ → ℕ

@@ -4,7 +4,7 @@ ghost use Prim.Native.Nat.{_<_};
 ghost use lib.ListN.{length};
 ghost use Rattle.known_strings.specs.Slots.{slotOf, slotCount};
 
-pub const SLOTS: usize = 4096;
+pub const SLOTS: usize = 8192;
 
 // All slots are free.
 pub fn free_slots() -> [u8; SLOTS]

@@ -1,13 +1,13 @@
--- What is proved of the definitions in specs/: strings (`Strings`, `Order`), the frame (`Frames`), subfields (`Parts`), the heading (`Headings`, `OneHeads`), and
--- that a record as one writes it is read as it was written (`Digits`, `Entries`, `Plain`), through the whole call too (`Written`). `Places`: how high places are.
--- What is proved of the definitions in specs/: strings (`Strings`, `Order`), the frame (`Frames`), subfields (`Parts`), the heading (`Headings`), and that a
--- record as one writes it is read as it was written (`Digits`, `Entries`, `Plain`); for the program the records of an input (`Streams`).
+-- What is proved of the definitions in specs/: strings (`Strings`, `Order`), the frame (`Frames`), subfields (`Parts`), the heading (`Headings`, `OneHeads`, `Unfit`),
+-- and that a record as one writes it is read as it was written (`Digits`, `Entries`, `Plain`), through the whole call too (`Written`). `Places`: how high places are.
+-- For the program: the records of an input (`Streams`).
 pub mod Strings
 pub mod Order
 pub mod Frames
 pub mod Parts
 pub mod Headings
 pub mod OneHeads
+pub mod Unfit
 pub mod Digits
 pub mod Entries
 pub mod Plain

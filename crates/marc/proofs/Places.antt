@@ -1,16 +1,15 @@
 -- How high the places of the call's refusals are: an entry's place is below the number of strings, and a byte's below the record's length, which
 -- is written in five digits.
 use mathlib.Core.Path.{_≡_, refl, sym as inv, ap, _∙_}
-use mathlib.Core.Logic.{_⊎_, inl, inr}
 use mathlib.Core.List.{List, [], _∷_, _++_}
-use mathlib.Core.Bool.{Bool, true, false, _&&_, _||_, not}
+use mathlib.Core.Bool.{Bool, true, false, _||_, not}
 use mathlib.Core.Option.{Option, none, some as just, Option·some-ne-none, Option·some-injective}
 use Prim.Native.Nat.{ℕ, zero, suc, _+_, _-_, _%_, _≤_, _<_}
 use native.Mathlib.Decide.{decLt}
 use native.Mathlib.Omega.{arith}
 use lib.Dec.{eqb, ltb, leb}
 use lib.ListN.{length, getD}
-use borrow.Author.Tests.{leb-true, ltb-true, ltb-false, eqb-true, not-false}
+use borrow.Author.Tests.{leb-true, ltb-true, eqb-true, not-false}
 use Rattle.theory.specs.Least.{orElse, leastBelow}
 use Rattle.theory.proofs.Lemmas.{and-left, and-right, both-false, least-just}
 use Rattle.meaning.specs.Refusals.{refusal, Row, row, at0, first, row8-output}
@@ -47,7 +46,7 @@ place-is : (place : ℕ) (b : Bool) (p : ℕ) → atIf place b ≡ just p → p 
 place-is place true p e = inv (Option·some-injective place p e)
 place-is place false p e = absurd (Option·some-ne-none p (inv e))
 
-least-inside : (b : ℕ → Bool) (n v : ℕ) → leastBelow n b ≡ just v → v < n
+pub least-inside : (b : ℕ → Bool) (n v : ℕ) → leastBelow n b ≡ just v → v < n
 least-inside b n v e = go (decLt v n)
   where
     go : Dec (v < n) → v < n

@@ -14,7 +14,7 @@ use Rattle.theory.specs.Least.{some}
 use Rattle.theory.proofs.Lemmas.{and-left, and-right, least-none, some-of, both-false}
 use Rattle.meaning.proofs.First.{Silent}
 use Rattle.marc.specs.Known.{Known, known, stringOf, numberOf, entryOf, same, numberIn, listedBefore, badEntry, row19}
-use Rattle.marc.specs.Reading.{Listed}
+use Rattle.marc.specs.Reading.{Listed, FineList}
 
 -- LAW: the test says that two strings have the same bytes, and only then
 pub same-true : (xs ys : List ℕ) → same xs ys ≡ true → xs ≡ ys
@@ -94,6 +94,10 @@ module _ (ks : List Known) (absent : ℕ) (s : Silent (row19 ks absent)) where
   apart i j l m e =
       false≢true (inv (some-none j (λ i. same (stringOf (entryOf ks i)) (stringOf (entryOf ks j))) (fine j m .0) i l) ∙ true-same (stringOf (entryOf ks i)) (stringOf (entryOf ks j)) e)
 
+  -- LAW: so the list is fine
+  pub none-unfit : FineList ks absent
+  none-unfit = record { none-twice = apart; none-absent = λ j l. eqb-false (numberOf (entryOf ks j)) absent (fine j l .1) }
+
   -- LAW: one entry has it
   pub is-listed : (string : List ℕ) (n : ℕ) → numberIn ks string ≡ just n → Listed ks string n
   is-listed string n e =
@@ -107,4 +111,4 @@ module _ (ks : List Known) (absent : ℕ) (s : Silent (row19 ks absent)) where
 
   -- LAW: and its number is not that of absent dates
   pub not-absent : (string : List ℕ) (n : ℕ) → Listed ks string n → n ≡ absent → ⊥
-  not-absent string n f e = eqb-false (numberOf (entryOf ks (f .index))) absent (fine (f .index) (f .inside) .1) (f .number-is ∙ e)
+  not-absent string n f e = none-unfit .none-absent (f .index) (f .inside) (f .number-is ∙ e)

@@ -1,5 +1,6 @@
 -- What is said of records and their headings. Statements; the proofs are in proofs/.
 use mathlib.Core.Path.{_≡_}
+use mathlib.Core.Logic.{_⊎_}
 use mathlib.Core.List.{List, [], _∷_, _++_, map}
 use mathlib.Core.Bool.{true, false, cond}
 use mathlib.Core.Option.{Option, none, some as just}
@@ -90,6 +91,15 @@ pub record HeadsCall (r : List ℕ) (ks : List Known) (heading absent : ℕ) (ou
   pub refuses : Exactly (headingRows r ks heading absent output) (given .answer)
   pub refusal-leaves : (n place : ℕ) → given .answer ≡ refused n place → given .output ≡ output
   pub three-nodes : given .answer ≡ gives aye → (nodes : List ℕ) × Heads r ks heading absent nodes × (given .output ≡ nodes ++ drop 3 output)
+
+-- An entry that may not be listed: an earlier one has its string, or its number is that of absent dates. The first such entry of a list.
+abbrev pub Unfit : List Known → ℕ → ℕ → Type 0
+Unfit ks absent j = ((i : ℕ) × (i < j) × (stringOf (entryOf ks i) ≡ stringOf (entryOf ks j))) ⊎ (numberOf (entryOf ks j) ≡ absent)
+
+pub record FirstUnfit (ks : List Known) (absent place : ℕ) : Type 0 where
+  pub inside : place < length ks
+  pub unfit : Unfit ks absent place
+  pub none-before : (k : ℕ) → k < place → Unfit ks absent k → ⊥
 
 -- In which order the call's rows stand, whatever is lent: the list, the room, the seven tests of the frame, the field, the name, the strings.
 abbrev pub HeadingOrder : Type 0
