@@ -47,10 +47,10 @@ pub fn compare(one: &[u8], two: &[u8]) -> Order
     let n = shorter(one, two);
     let mut k: usize = 0;
     while k < n {
-        if one[k] < two[k] {
-            return Order::Before;
-        }
-        if one[k] > two[k] {
+        if one[k] != two[k] {
+            if one[k] < two[k] {
+                return Order::Before;
+            }
             return Order::After;
         }
         k += 1;

@@ -30,17 +30,17 @@ shared-slice-read-if1 c = search needs
 shared-slice-read-if1-2 : tie.Need-shared-slice-read-if1-2 Inv-loop μ-loop
 shared-slice-read-if1-2 c = search needs
 
-returns : tie.Need-returns Inv-loop μ-loop
-returns c =
-    let a = c .before .before .before .before .before .before .before .before .args in
-    let head = c .before .before .before .before .loop in
-    head .inv .2 Before (before-lower (now (a .one)) (now (a .two)) (head .k) (omega arith) (omega arith) (omega arith))
-
 shared-slice-read-if2 : tie.Need-shared-slice-read-if2 Inv-loop μ-loop
 shared-slice-read-if2 c = search needs
 
 shared-slice-read-if2-2 : tie.Need-shared-slice-read-if2-2 Inv-loop μ-loop
 shared-slice-read-if2-2 c = search needs
+
+returns : tie.Need-returns Inv-loop μ-loop
+returns c =
+    let a = c .before .before .before .before .before .before .before .before .before .before .before .args in
+    let head = c .before .before .before .before .before .before .before .loop in
+    head .inv .2 Before (before-lower (now (a .one)) (now (a .two)) (head .k) (omega arith) (omega arith) (omega arith))
 
 returns-2 : tie.Need-returns-2 Inv-loop μ-loop
 returns-2 c =
@@ -56,8 +56,8 @@ loop-less c = search needs
 
 loop-again : tie.Need-loop-again Inv-loop μ-loop
 loop-again c =
-    let a = c .before .before .before .before .before .before .before .before .before .before .before .args in
-    let head = c .before .before .before .before .before .before .before .loop in
+    let a = c .before .before .before .before .before .before .before .before .args in
+    let head = c .before .before .before .before .loop in
     (head .inv .0, omega arith, λ r p. head .inv .2 r (goes-on (now (a .one)) (now (a .two)) (head .k) (omega arith) (omega arith) (omega arith) r p))
 
 returns-3 : tie.Need-returns-3 Inv-loop μ-loop
@@ -88,9 +88,9 @@ compare-spec =
     loop-holds
     shared-slice-read-if1
     shared-slice-read-if1-2
-    returns
     shared-slice-read-if2
     shared-slice-read-if2-2
+    returns
     returns-2
     add-k
     loop-less
