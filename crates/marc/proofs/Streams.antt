@@ -7,8 +7,8 @@ use Prim.Native.Nat.{ℕ, zero, suc, _-_, _≤_, _<_}
 use native.Mathlib.Omega.{arith}
 use lib.Dec.{eqb, leb}
 use lib.ListN.{length, getD, take, drop, length-append, take-append-drop}
-use lib.Seq.{length-take-le}
-use borrow.Author.Tests.{leb-true, eqb-true}
+use lib.Seq.{length-take-le, take-at, drop-at}
+use borrow.Author.Tests.{leb-true, eqb-true, le-leb, eq-eqb}
 use Rattle.theory.proofs.Lemmas.{and-left, and-right}
 use Rattle.marc.specs.Frame.{digitsAt, recordLength, recordMark}
 use Rattle.marc.specs.Stream.{isBreak, behindBreaks, toMark, asSaid, sizeOf, Coming, comes, noMore, comingIn, nextIn, withNext, recordsFrom, recordsIn}
@@ -34,6 +34,10 @@ mark-some b bs = at-byte (eqb b recordMark)
 
 -- ---- as long as it says, or not
 
+unless : (test : Bool) → (test ≡ true → ⊥) → test ≡ false
+unless true n = absurd (n refl)
+unless false n = refl
+
 pub record Said (bytes : List ℕ) : Type 0 where
   pub digits : digitsAt bytes 0 5 ≡ true
   pub not-few : 26 ≤ recordLength bytes
@@ -55,6 +59,29 @@ said bytes e =
       there = leb-true (recordLength bytes) (length bytes) (and-right (d && f) t three);
       marked = eqb-true (getD bytes (recordLength bytes - 1) 0) recordMark (and-right (d && f && t) m e);
     }
+
+-- LAW: and if one of these fails, it is not
+pub not-digits : (bytes : List ℕ) → digitsAt bytes 0 5 ≡ false → asSaid bytes ≡ false
+not-digits bytes d = unless (asSaid bytes) (λ e. let z : _≡_ {A = ℕ} 0 1 = cc (said bytes e .digits) in omega arith)
+
+pub too-few : (bytes : List ℕ) → recordLength bytes < 26 → asSaid bytes ≡ false
+too-few bytes l = unless (asSaid bytes) (λ e. omega (arith, said bytes e .not-few))
+
+pub not-there : (bytes : List ℕ) → length bytes < recordLength bytes → asSaid bytes ≡ false
+not-there bytes l = unless (asSaid bytes) (λ e. omega (arith, said bytes e .there))
+
+pub not-marked : (bytes : List ℕ) → (getD bytes (recordLength bytes - 1) 0 ≡ recordMark → ⊥) → asSaid bytes ≡ false
+not-marked bytes n = unless (asSaid bytes) (λ e. n (said bytes e .marked))
+
+pub is-said : (bytes : List ℕ) → Said bytes → asSaid bytes ≡ true
+unfolding asSaid
+is-said bytes s =
+    rw (
+      s .digits,
+      le-leb 26 (recordLength bytes) (s .not-few),
+      le-leb (recordLength bytes) (length bytes) (s .there),
+      eq-eqb (getD bytes (recordLength bytes - 1) 0) recordMark (s .marked),
+    )
 
 pub size-said : (bytes : List ℕ) → asSaid bytes ≡ true → sizeOf bytes ≡ recordLength bytes
 unfolding sizeOf
@@ -100,6 +127,11 @@ parted (b ∷ bs) bytes left e =
       long = many;
       whole = inv (take-append-drop (sizeOf (b ∷ bs)) (b ∷ bs)) ∙ ap₂ _++_ first rest;
     }
+
+-- LAW: bytes of the size that is said come next
+pub coming-is : (bytes left : List ℕ) → 1 ≤ length bytes → length bytes ≡ sizeOf (bytes ++ left) → comingIn (bytes ++ left) ≡ comes bytes left
+coming-is [] left some long = absurd (omega arith)
+coming-is (b ∷ bs) left some long = ap₂ comes (take-at (b ∷ bs) left (sizeOf (b ∷ (bs ++ left))) long) (drop-at (b ∷ bs) left (sizeOf (b ∷ (bs ++ left))) long)
 
 pub next-parted : (input bytes left : List ℕ) → nextIn input ≡ comes bytes left → Parted bytes left (behindBreaks input)
 unfolding nextIn

@@ -9,12 +9,16 @@ use Rattle.marc_input.specs.declared.passing.Passed.{Passed}
 use Rattle.marc_input.specs.declared.passing.Passed.the-variants.{To, Endless}
 use Rattle.marc_input.specs.Rests.{restIn, MayFollow, MoreBy}
 
+-- No mark stands in these bytes: the next is in what follows.
+abbrev pub NoMark : List ℕ → Type 0
+NoMark bytes = (beyond : List ℕ) → toMark (bytes ++ beyond) ≡ length bytes + toMark beyond
+
 -- A mark stands at `place`, the first of these bytes that begin at `from`; or there is none and `place` is their end.
 pub record MarkBy (bytes : List ℕ) (from to place : ℕ) : Type 0 where
   pub rising : from ≤ place
   pub inside : place ≤ to
   pub marked : place < to → (beyond : List ℕ) → toMark (bytes ++ beyond) ≡ place - from + 1
-  pub unmarked : place ≡ to → (beyond : List ℕ) → toMark (bytes ++ beyond) ≡ length bytes + toMark beyond
+  pub unmarked : place ≡ to → NoMark bytes
 
 -- the bytes behind the next mark
 abbrev pub behindMark : List ℕ → List ℕ

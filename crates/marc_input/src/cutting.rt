@@ -1,9 +1,11 @@
 // Where a record ends.
 ghost use mathlib.Core.Path.{_≡_};
-ghost use Prim.Native.Nat.{_≤_, _<_};
+ghost use mathlib.Core.Bool.{false};
+ghost use Prim.Native.Nat.{_-_, _≤_, _<_};
 ghost use lib.ListN.{length};
-ghost use Rattle.marc_input.specs.Rests.{Held};
-ghost use Rattle.marc_input.specs.Cuts.{mostBytes, NextBy};
+ghost use Rattle.marc.specs.Stream.{comingIn};
+ghost use Rattle.marc_input.specs.Rests.{Held, restIn};
+ghost use Rattle.marc_input.specs.Cuts.{mostBytes, ComesBy, NextBy, Says, NotAsSaid, SaidBy, ToMarkBy, endsMarked};
 use crate::passing::Passed;
 use crate::passing::RECORD_MARK;
 use crate::passing::find_mark;
@@ -34,7 +36,10 @@ pub enum Cut {
 }
 
 // How many bytes a record says that it has; 0 where it says nothing that can be.
-fn said_length(buffer: &[u8], rest: Rest) -> usize {
+fn said_length(buffer: &[u8], rest: Rest) -> usize
+    requires { ⌜ Held (now buffer) rest × (rest .over ≡ false → 5 ≤ rest .end - rest .at) ⌝ }
+    ensures { λ r. ⌜ SaidBy (now (buffer .entry)) rest r ⌝ }
+{
     if rest.end - rest.at < LENGTH_DIGITS {
         return 0;
     }
@@ -49,7 +54,10 @@ fn said_length(buffer: &[u8], rest: Rest) -> usize {
 }
 
 // Reads until a mark is there, or more bytes than a record may have, or the input is over.
-fn fill_to_mark(buffer: &mut [u8], rest: Rest) -> Rest {
+fn fill_to_mark(buffer: &mut [u8], rest: Rest) -> Rest
+    requires { ⌜ Held (now buffer) rest × (mostBytes < length (now buffer)) ⌝ }
+    ensures { λ r. ⌜ ToMarkBy (now (buffer .entry)) rest r (now (buffer .exit)) ⌝ }
+{
     let mut now = rest;
     let mut mark = find_mark(buffer, now.at, now.end);
     while mark == now.end && !now.over && now.end - now.at <= MOST_BYTES {
@@ -61,7 +69,10 @@ fn fill_to_mark(buffer: &mut [u8], rest: Rest) -> Rest {
 }
 
 // A record that is not as long as it says ends with the next mark, or with the input.
-fn cut_at_mark(buffer: &mut [u8], rest: Rest) -> Cut {
+fn cut_at_mark(buffer: &mut [u8], rest: Rest) -> Cut
+    requires { ⌜ Held (now buffer) rest × (rest .at < rest .end) × (mostBytes < length (now buffer)) × NotAsSaid (now buffer) rest ⌝ }
+    ensures { λ r. ⌜ ComesBy comingIn (now (buffer .entry)) rest r (now (buffer .exit)) ⌝ }
+{
     let now = fill_to_mark(buffer, rest);
     let mark = find_mark(buffer, now.at, now.end);
     if mark < now.end {
@@ -74,44 +85,48 @@ fn cut_at_mark(buffer: &mut [u8], rest: Rest) -> Cut {
             },
         );
     }
+    let used = Rest {
+        at: now.end,
+        end: now.end,
+        over: now.over,
+    };
     if now.over {
-        return Cut::Whole(
-            now.at,
-            Rest {
-                at: now.end,
-                end: now.end,
-                over: true,
-            },
-        );
+        return Cut::Whole(now.at, used);
     }
-    match pass_record(
-        buffer,
-        Rest {
-            at: now.end,
-            end: now.end,
-            over: false,
-        },
-    ) {
+    match pass_record(buffer, used) {
         Passed::To(left) => Cut::TooLong(left),
         Passed::Endless => Cut::Endless,
     }
 }
 
-// A record that says that it has so many bytes, if it ends there with its mark.
-fn cut_as_said(buffer: &mut [u8], rest: Rest, count: usize) -> Cut {
+// Whether so many bytes are there, with a mark at their end.
+fn ends_marked(buffer: &[u8], rest: Rest, count: usize) -> bool
+    requires { ⌜ Held (now buffer) rest × (1 ≤ count) ⌝ }
+    ensures { λ r. ⌜ r ≡ endsMarked (now (buffer .entry)) rest count ⌝ }
+{
+    if rest.end - rest.at < count {
+        return false;
+    }
+    let last = rest.at + count - 1;
+    buffer[last] == RECORD_MARK
+}
+
+// A record that says that it has so many bytes, if it is so.
+fn cut_as_said(buffer: &mut [u8], rest: Rest, count: usize) -> Cut
+    requires { ⌜ Held (now buffer) rest × (rest .at < rest .end) × (mostBytes < length (now buffer)) ⌝ }
+    requires { ⌜ (26 ≤ count) × (count ≤ mostBytes) × Says count (restIn (now buffer) rest) ⌝ }
+    ensures { λ r. ⌜ ComesBy comingIn (now (buffer .entry)) rest r (now (buffer .exit)) ⌝ }
+{
     let now = fill(buffer, rest, count);
-    if now.end - now.at >= count {
-        let behind = now.at + count;
-        if buffer[behind - 1] == RECORD_MARK {
-            return Cut::Whole(
-                now.at,
-                Rest {
-                    at: behind,
-                    end: now.end,
-                    over: now.over,
-                },
-            );
-        }
+    if ends_marked(buffer, now, count) {
+        return Cut::Whole(
+            now.at,
+            Rest {
+                at: now.at + count,
+                end: now.end,
+                over: now.over,
+            },
+        );
     }
     cut_at_mark(buffer, now)
 }

@@ -2,7 +2,7 @@
 ghost use mathlib.Core.Path.{_≡_};
 ghost use Prim.Native.Nat.{_≤_, _<_};
 ghost use lib.ListN.{length};
-ghost use Rattle.marc.specs.Stream.{behindBreaks};
+ghost use Rattle.marc.specs.Stream.{isBreak, behindBreaks};
 ghost use Rattle.input.specs.Unreads.{unread};
 ghost use Rattle.marc_input.specs.Rests.{Held};
 ghost use Rattle.marc_input.specs.Passing.{PassedBy, behindMark, MarkBy};
@@ -11,6 +11,11 @@ use crate::rest::fill;
 
 // Ends a record.
 pub const RECORD_MARK: u8 = 29;
+
+// What a line ends with: one of them, or both.
+const LINE_FEED: u8 = 10;
+
+const CARRIAGE_RETURN: u8 = 13;
 
 pub enum Passed {
     // the bytes that are not used yet
@@ -34,6 +39,13 @@ pub fn find_mark(buffer: &[u8], from: usize, to: usize) -> usize
     to
 }
 
+fn is_break(byte: u8) -> bool
+    ensures { λ r. ⌜ r ≡ isBreak byte ⌝ }
+{
+    byte == LINE_FEED || byte == CARRIAGE_RETURN
+}
+
+// Passes over line ends.
 pub fn pass_breaks(buffer: &mut [u8], rest: Rest) -> Passed
     requires { ⌜ Held (now buffer) rest × (1 ≤ length (now buffer)) ⌝ }
     ensures { λ r. ⌜ PassedBy behindBreaks (now (buffer .entry)) rest r (now (buffer .exit)) ⌝ }
@@ -41,14 +53,14 @@ pub fn pass_breaks(buffer: &mut [u8], rest: Rest) -> Passed
     let mut now = rest;
     for _ in 0..u64::MAX {
         now = fill(buffer, now, 1);
-        if now.at == now.end {
+        let at = now.at;
+        if at == now.end {
             return Passed::To(now);
         }
-        let byte = buffer[now.at];
-        if byte != 10 && byte != 13 {
+        if !is_break(buffer[at]) {
             return Passed::To(now);
         }
-        now.at += 1;
+        now.at = at + 1;
     }
     Passed::Endless
 }

@@ -1,5 +1,4 @@
 // Bytes that were read from standard input and are not used yet, until it is over.
-ghost use mathlib.Core.Path.{_≡_};
 ghost use Prim.Native.Nat.{_≤_};
 ghost use lib.ListN.{length};
 ghost use Rattle.marc_input.specs.Rests.{Held, FilledBy};
