@@ -1,6 +1,6 @@
 -- What is proved of the definitions in specs/: strings (`Strings`, `Order`), the frame (`Frames`), subfields (`Parts`), the heading (`Headings`, `OneHeads`, `Unfit`),
 -- and that a record as one writes it is read as it was written (`Digits`, `Entries`, `Plain`), through the whole call too (`Written`). `Places`: how high places are.
--- For the program: the records of an input (`Streams`).
+-- For the program: the records of an input (`Streams`, `Streaming`), and the list file (`Lists`).
 pub mod Strings
 pub mod Order
 pub mod Frames
@@ -14,3 +14,4 @@ pub mod Plain
 pub mod Written
 pub mod Places
 pub mod Streams
+pub mod Streaming

@@ -73,7 +73,7 @@ module _ (one two : List ℕ) (fs : List Field) (h : Holds one two fs) where
   front-length =
       omega (arith, length-append leader (directory 0 fs ++ (fieldMark ∷ [])), length-append (directory 0 fs) (fieldMark ∷ []), twenty-four, length-directory fs 0 (h .each))
 
-  all-length : length r ≡ L
+  pub all-length : length r ≡ L
   all-length = ap length at-fields ∙ omega (arith, length-append front (fieldsBytes fs ++ (recordMark ∷ [])), length-append (fieldsBytes fs) (recordMark ∷ []), front-length)
 
   base-digits : digitsAt r 12 5 ≡ true
@@ -86,7 +86,7 @@ module _ (one two : List ℕ) (fs : List Field) (h : Holds one two fs) where
       let rest = two ++ (directory 0 fs ++ (fieldMark ∷ (fieldsBytes fs ++ (recordMark ∷ [])))) in
       ap (λ x. decimalAt x 12 5) at-base ∙ decimal-behind lead (fiveDigits B ++ rest) 12 5 twelve ∙ five-value B rest (omega (arith, h .short))
 
-  length-read : (digitsAt r 0 5 ≡ true) × (recordLength r ≡ L)
+  pub length-read : (digitsAt r 0 5 ≡ true) × (recordLength r ≡ L)
   unfolding recordOf
   length-read =
       let rest = one ++ (fiveDigits B ++ (two ++ (directory 0 fs ++ (fieldMark ∷ (fieldsBytes fs ++ (recordMark ∷ [])))))) in
@@ -126,7 +126,7 @@ module _ (one two : List ℕ) (fs : List Field) (h : Holds one two fs) where
       ap (λ x. getD x (baseAddress r - 1) 0) (at-directory ∙ inv (append-assoc leader (directory 0 fs) (fieldMark ∷ (fieldsBytes fs ++ (recordMark ∷ [])))))
       ∙ getD-at (leader ++ directory 0 fs) fieldMark (fieldsBytes fs ++ (recordMark ∷ [])) 0 (baseAddress r - 1) at
 
-  last-mark : getD r (length r - 1) 0 ≡ recordMark
+  pub last-mark : getD r (length r - 1) 0 ≡ recordMark
   last-mark =
       let at : length (front ++ fieldsBytes fs) ≡ length r - 1 = omega (arith, length-append front (fieldsBytes fs), front-length, all-length) in
       ap (λ x. getD x (length r - 1) 0) (at-fields ∙ inv (append-assoc front (fieldsBytes fs) (recordMark ∷ [])))

@@ -101,6 +101,15 @@ size-pos b bs = by-test (asSaid (b ∷ bs)) refl
 
 -- ---- what comes next
 
+-- LAW: a line end in front is passed over, and no other byte
+pub break-goes : (b : ℕ) (bs : List ℕ) → isBreak b ≡ true → behindBreaks (b ∷ bs) ≡ behindBreaks bs
+unfolding behindBreaks
+break-goes b bs e = rw e
+
+pub break-stays : (b : ℕ) (bs : List ℕ) → isBreak b ≡ false → behindBreaks (b ∷ bs) ≡ b ∷ bs
+unfolding behindBreaks
+break-stays b bs e = rw e
+
 pub breaks-most : (input : List ℕ) → length (behindBreaks input) ≤ length input
 unfolding behindBreaks
 breaks-most [] = omega arith

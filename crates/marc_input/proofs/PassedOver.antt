@@ -1,7 +1,7 @@
 -- While bytes are passed over, those that are gone and those in the buffer are together all that was there and was read since; and what is sought is
 -- the same behind those that are gone.
 use mathlib.Core.Path.{_≡_, refl, sym as inv, ap, ap₂, subst, _∙_}
-use mathlib.Core.List.{List, [], _∷_, _++_, append-assoc, append-nil}
+use mathlib.Core.List.{List, [], _++_, append-assoc, append-nil}
 use mathlib.Core.Bool.{true, false}
 use Prim.Native.Nat.{ℕ, _+_, _≤_, _<_}
 use native.Mathlib.Omega.{arith}
@@ -9,6 +9,7 @@ use lib.ListN.{length, getD, length-append}
 use Rattle.input.specs.Unreads.{unread}
 use Rattle.input.proofs.Unused.{length-unread, unread-none}
 use Rattle.marc.specs.Stream.{isBreak, behindBreaks}
+use Rattle.marc.proofs.Streams.{break-goes, break-stays}
 use Rattle.marc_input.specs.declared.rest.Rest.{Rest}
 use Rattle.marc_input.specs.declared.passing.Passed.the-variants.{Endless}
 use Rattle.marc_input.specs.Rests.{Held, restIn, MayFollow, MoreBy, FilledBy}
@@ -94,13 +95,10 @@ no-break-none = refl
 module _ (buffer : List ℕ) (at : ℕ) where
   -- LAW: a line end is passed over
   pub break-passes : at < length buffer → isBreak (getD buffer at 0) ≡ true → (left : List ℕ) → behindBreaks (unread buffer at (at + 1) ++ left) ≡ behindBreaks left
-  unfolding behindBreaks
-  break-passes l e left = ap (λ s. behindBreaks (s ++ left)) (unread-one buffer at l) ∙ rw e
+  break-passes l e left = ap (λ s. behindBreaks (s ++ left)) (unread-one buffer at l) ∙ break-goes (getD buffer at 0) left e
 
   -- LAW: and no other byte
-  pub break-stops : (end : ℕ) → at < end → end ≤ length buffer → isBreak (getD buffer at 0) ≡ false → (beyond : List ℕ) → behindBreaks (unread buffer at end ++ beyond) ≡ unread buffer at end ++ beyond
-  unfolding behindBreaks
-  break-stops end l k e beyond = subst (λ s. behindBreaks (s ++ beyond) ≡ s ++ beyond) (inv (unread-first buffer at end l k)) stays
-    where
-      stays : behindBreaks (getD buffer at 0 ∷ (unread buffer (at + 1) end ++ beyond)) ≡ getD buffer at 0 ∷ (unread buffer (at + 1) end ++ beyond)
-      stays = rw e
+  pub break-stops : (end : ℕ) → at < end → end ≤ length buffer → isBreak (getD buffer at 0) ≡ false
+      → (beyond : List ℕ) → behindBreaks (unread buffer at end ++ beyond) ≡ unread buffer at end ++ beyond
+  break-stops end l k e beyond =
+      subst (λ s. behindBreaks (s ++ beyond) ≡ s ++ beyond) (inv (unread-first buffer at end l k)) (break-stays (getD buffer at 0) (unread buffer (at + 1) end ++ beyond) e)
