@@ -36,9 +36,16 @@ pub record ListFile (bytes : List ℕ) (heading absent : ℕ) (ks : List Known) 
   pub each : All Listable ks
   pub written : bytes ≡ listText heading absent ks
 
+-- no line of the kind can be what these bytes begin with
+abbrev pub NoFirstLine : List ℕ → Type 0
+NoFirstLine bytes = (heading absent : ℕ) (left : List ℕ) → Numbered heading → Numbered absent → bytes ≡ firstLine heading absent ++ left → ⊥
+
+abbrev pub NoLine : List ℕ → Type 0
+NoLine bytes = (k : Known) (left : List ℕ) → Listable k → bytes ≡ lineOf k ++ left → ⊥
+
 -- A file of another shape, with the first line that is not as it has to be, counted from 1: the lines before it are a list's, and no line can be
 -- what follows them.
 pub data BadLine (bytes : List ℕ) : ℕ → Type 0 where
-  at-first : ((heading absent : ℕ) (left : List ℕ) → Numbered heading → Numbered absent → bytes ≡ firstLine heading absent ++ left → ⊥) → BadLine bytes 1
+  at-first : NoFirstLine bytes → BadLine bytes 1
   behind : (heading absent : ℕ) (ks : List Known) {front : List ℕ} (left : List ℕ) → ListFile front heading absent ks → bytes ≡ front ++ left → 0 < length left
-      → ((k : Known) (rest : List ℕ) → Listable k → left ≡ lineOf k ++ rest → ⊥) → BadLine bytes (length ks + 2)
+      → NoLine left → BadLine bytes (length ks + 2)

@@ -1,11 +1,11 @@
 // Numbers in decimal digits.
 ghost use mathlib.Core.Path.{_≡_};
 ghost use mathlib.Core.Bool.{true};
-ghost use Prim.Native.Nat.{_+_, _≤_, _<_};
+ghost use Prim.Native.Nat.{_+_, _-_, _≤_, _<_};
 ghost use lib.ListN.{length};
 ghost use Rattle.marc.specs.Frame.{isDigit, digitsAt, decimalAt};
 
-fn is_digit(byte: u8) -> bool
+pub fn is_digit(byte: u8) -> bool
     ensures { λ r. ⌜ r ≡ isDigit byte ⌝ }
 {
     byte >= 48 && byte <= 57
@@ -24,6 +24,16 @@ pub fn digits(bytes: &[u8], at: usize, n: usize) -> bool
         k += 1;
     }
     true
+}
+
+// What a digit stands for. (Any other byte gives some number too, so that this can be asked of any.)
+pub fn digit(byte: u8) -> usize
+    ensures { λ r. ⌜ (r ≡ byte - 48) × (r ≤ 207) ⌝ }
+{
+    if byte < 48 {
+        return 0;
+    }
+    (byte - 48) as usize
 }
 
 fn wide(byte: u8) -> usize
