@@ -26,7 +26,7 @@ returns-2 c =
     (sym (c .before .digits .ensures) ∙ not-true _ (c .if2 .taken))
 
 five-requires : tie.Need-five-requires
-five-requires c κs = search needs
+five-requires c κs = (omega arith, sym (c .before .digits .ensures) ∙ not-false _ (c .if2 .left))
 
 returns-3 : tie.Need-returns-3
 returns-3 c =
