@@ -1,7 +1,8 @@
 //! The C interface of the proved library, as it stands in `include/`. The functions of [`crate::proved`] are the safe way to it.
 //!
-//! An answer of 32 bits holds the refusal's number in its low half, 0 where nothing is refused, and the place in its high half. What is
-//! written through a pointer is left as it was by a refusal, but for the degrees of a match, which are then 0.
+//! An answer of 32 bits holds the refusal's number in its low half, 0 where nothing is refused, and the place in its high half; one of 64
+//! bits, for an exchange record, has 48 for the place. What is written through a pointer is left as it was by a refusal, but for the
+//! degrees of a match, which are then 0.
 
 use crate::Pair;
 
@@ -70,4 +71,18 @@ extern "C" {
         out_len: usize,
         written: *mut usize,
     ) -> u32;
+    pub fn shx_marc_heading(
+        record: *const u8,
+        record_len: usize,
+        text: *const u8,
+        text_len: usize,
+        ends: *const u32,
+        ends_len: usize,
+        numbers: *const u16,
+        numbers_len: usize,
+        heading: u16,
+        absent: u16,
+        nodes: *mut u16,
+        nodes_len: usize,
+    ) -> u64;
 }

@@ -17,6 +17,26 @@ pub struct Refusal {
 /// What a call that can be refused answers.
 pub type Answer<T> = Result<T, Refusal>;
 
+/// Why no heading was read from an exchange record: places in a record or in a list of strings go beyond 16 bits.
+#[derive(Clone, Copy, Debug, PartialEq, Eq)]
+pub struct WideRefusal {
+    pub number: u16,
+    pub place: u64,
+}
+
+/// The strings that are known, with their numbers: all of them one behind the other in the text, string j up to `ends[j]` from where the one
+/// before it ends. As many as the shorter of the two lists has; what lies behind the text is not there, and an end below its string's
+/// beginning gives the empty string.
+#[derive(Clone, Copy, Debug)]
+pub struct Known<'a> {
+    pub text: &'a [u8],
+    pub ends: &'a [u32],
+    pub numbers: &'a [u16],
+}
+
+/// The type of `marc_heading` in both modules.
+pub type MarcHeading = fn(&[u8], Known, u16, u16, &mut [u16]) -> Result<(), WideRefusal>;
+
 /// The type of `match_heading` in both modules.
 pub type MatchHeading = fn(&[u8], &[u16], &[u16], u16, &mut [u16], &mut [u64]) -> Answer<Degrees>;
 
@@ -56,3 +76,5 @@ pub const SPANS: usize = SPAN * VARIABLES;
 pub const WORDS: usize = 8;
 /// How many it asked for while a table had up to 256 symbols.
 pub const SAVED_WORDS: usize = 4;
+/// How many nodes the heading of an exchange record has: the heading symbol, the name, the dates.
+pub const RECORD_NODES: usize = 3;

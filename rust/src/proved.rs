@@ -4,7 +4,7 @@
 //! proved of it, and that a slice is such a part.
 
 use crate::ffi;
-use crate::{Answer, Degrees, Pair, Refusal};
+use crate::{Answer, Degrees, Known, Pair, Refusal, WideRefusal};
 
 fn accepted(answer: u32) -> Answer<()> {
     match answer as u16 {
@@ -145,4 +145,36 @@ pub fn widen(words: &[u64], out: &mut [u64]) -> Answer<usize> {
     let mut written = 0;
     accepted(unsafe { ffi::shx_widen(words.as_ptr(), words.len(), out.as_mut_ptr(), out.len(), &mut written) })?;
     Ok(written)
+}
+
+/// Writes the heading of an exchange record to the front of the nodes: the heading symbol, and the numbers of the name and of the dates in its
+/// first 100 field, or the absent number where that has no dates. The nodes behind the three stay. Refusals 19, 8, 17, 20, 21 and 22, in
+/// this order, which write nothing.
+pub fn marc_heading(
+    record: &[u8],
+    known: Known,
+    heading: u16,
+    absent: u16,
+    nodes: &mut [u16],
+) -> Result<(), WideRefusal> {
+    let answer = unsafe {
+        ffi::shx_marc_heading(
+            record.as_ptr(),
+            record.len(),
+            known.text.as_ptr(),
+            known.text.len(),
+            known.ends.as_ptr(),
+            known.ends.len(),
+            known.numbers.as_ptr(),
+            known.numbers.len(),
+            heading,
+            absent,
+            nodes.as_mut_ptr(),
+            nodes.len(),
+        )
+    };
+    match answer as u16 {
+        0 => Ok(()),
+        number => Err(WideRefusal { number, place: answer >> 16 }),
+    }
 }

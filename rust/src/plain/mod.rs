@@ -1,7 +1,10 @@
 //! The calls in plain Rust, written from the rules of the formats alone: nothing here is taken over from the proved library, and both
-//! are compared by the tests. Safe code, no allocation; scratch is on the stack, in classes by size, so that a small call clears little.
+//! are compared by the tests. Safe code; scratch is on the stack, in classes by size, so that a small call clears little. Nothing is
+//! allocated, but for a long list of known strings in any order.
 
 mod facing;
+mod known;
+mod marc;
 mod matching;
 mod near;
 mod saved;
@@ -13,6 +16,7 @@ use crate::{Answer, Degrees, Pair, Refusal};
 use table::Table;
 use terms::{check_heading, check_pattern};
 
+pub use marc::marc_heading;
 pub use saved::widen;
 pub use writer::write_table;
 
