@@ -2,9 +2,10 @@
 //! lengths. `bench list` names the workloads; `bench time` times them here and now, both implementations by turns.
 
 mod build;
+mod records;
 mod workloads;
 
-use shuuxideg::{plain, proved, Answer, MatchHeading, Widen, WriteTable};
+use shuuxideg::{plain, proved, Answer, MarcHeading, MatchHeading, Widen, WriteTable};
 use std::time::Instant;
 use workloads::{workloads, Workload};
 
@@ -17,6 +18,7 @@ pub struct Calls {
     pub match_heading: MatchHeading,
     pub write_table: WriteTable,
     pub widen: Widen,
+    pub marc_heading: MarcHeading,
 }
 
 type HeadingDegree = fn(&[u8], &[u16], &[u16]) -> Answer<u16>;
@@ -28,6 +30,7 @@ static OURS: Calls = Calls {
     match_heading: proved::match_heading,
     write_table: proved::write_table,
     widen: proved::widen,
+    marc_heading: proved::marc_heading,
 };
 
 static PLAIN: Calls = Calls {
@@ -37,6 +40,7 @@ static PLAIN: Calls = Calls {
     match_heading: plain::match_heading,
     write_table: plain::write_table,
     widen: plain::widen,
+    marc_heading: plain::marc_heading,
 };
 
 /// The calls as something that the compiler knows nothing about.

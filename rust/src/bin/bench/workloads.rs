@@ -1,8 +1,9 @@
 //! What is measured. Every call checks its table first, as the calls do; where that is most of the cost the title says so.
 
 use crate::build::{Draw, Table};
+use crate::records::{long_record, rising_strings, short_record, shuffled, List, ABSENT, HEADING};
 use crate::Calls;
-use shuuxideg::{MAX_NODES, SAVED_WORDS, VARIABLE, WORDS};
+use shuuxideg::{MAX_NODES, RECORD_NODES, SAVED_WORDS, VARIABLE, WORDS};
 
 pub struct Workload {
     pub name: &'static str,
@@ -161,6 +162,37 @@ fn converter() -> Workload {
     Workload { name: "converter", title: "converter, 1,024 positions", times: 10 * LARGE, once: Box::new(once) }
 }
 
+/// A record is read by these strings, or refused by that number.
+fn record(
+    name: &'static str,
+    title: &'static str,
+    times: usize,
+    record: Vec<u8>,
+    strings: &[String],
+    refused: Option<u16>,
+) -> Workload {
+    let (list, mut nodes) = (List::new(strings), [0; RECORD_NODES]);
+    let once = move |calls: &Calls| {
+        let read = (calls.marc_heading)(&record, list.lent(), HEADING, ABSENT, &mut nodes);
+        assert_eq!(read.err().map(|refusal| refusal.number), refused, "{}", name);
+        read.map_or_else(|refusal| refusal.place, |_| u64::from(nodes[1]) ^ u64::from(nodes[2]))
+    };
+    Workload { name, title, times, once: Box::new(once) }
+}
+
+fn records() -> [Workload; 4] {
+    let strings = rising_strings();
+    let few = ["1804-1849", "1825-1899", "Strauss, Eduard,", "Strauss, Johann,", "Strauss, Josef,"].map(String::from);
+    let mut damaged = short_record();
+    *damaged.last_mut().unwrap() = b'\n';
+    [
+        record("marc-rising", "record, 150 bytes, 500 strings that rise", 10 * LARGE, short_record(), &strings, None),
+        record("marc-any", "record, 150 bytes, 500 in any order", LARGE, short_record(), &shuffled(&strings), None),
+        record("marc-long", "record, 99,999 bytes, 5 strings", LARGE, long_record(), &few, None),
+        record("marc-refused", "record, 150 bytes, 5 strings, refused at its end", SMALL, damaged, &few, Some(17)),
+    ]
+}
+
 pub fn workloads() -> Vec<Workload> {
     let large = Table::of_256_symbols(8192);
     let (first, second) = long_headings(&large);
@@ -172,7 +204,7 @@ pub fn workloads() -> Vec<Workload> {
         refused: None,
     };
     let (five, other) = (vec![0, 1, 5, 2, 6], vec![0, 4, 7, 3, 7]);
-    vec![
+    let mut all = vec![
         check("table-small", "table check, table T", SMALL, Table::listing()),
         check("table-large", "table check, 256 symbols, 8,192 pairs", LARGE, Table::of_256_symbols(8192)),
         symbols("symbols-small", "symbol degree, table T (mostly its check)", SMALL, Table::listing()),
@@ -191,5 +223,7 @@ pub fn workloads() -> Vec<Workload> {
         clash(true).workload("clash-late", "match, 1,024 nodes, clash at the last", LARGE),
         writer(),
         converter(),
-    ]
+    ];
+    all.extend(records());
+    all
 }
