@@ -1,7 +1,10 @@
 //! One question to both implementations: equal answers, equal buffers, guards and inputs as they were.
 
 use crate::lent::Lent;
-use shuuxideg::{plain, proved, MatchHeading, Pair, Widen, WriteTable, WORDS};
+use crate::records::{List, DELIMITER};
+use shuuxideg::{
+    plain, proved, Known, MarcHeading, MatchHeading, Pair, WideRefusal, Widen, WriteTable, RECORD_NODES, WORDS,
+};
 use std::fmt::Debug;
 
 const GUARD: u16 = 0xa55a;
@@ -180,6 +183,33 @@ pub fn widen(words: &[u64], room: usize) -> Option<Vec<u64>> {
             None
         }
     }
+}
+
+/// Asks both for the heading of a record, with room for so many nodes; the three nodes, or the refusal.
+pub fn marc_heading(record: &[u8], list: &List, absent: u16, room: usize) -> Result<[u16; RECORD_NODES], WideRefusal> {
+    const HEADING: u16 = 4711;
+    let (lent, text) = (Lent::new(record, DELIMITER), Lent::new(&list.text, b'a'));
+    let (ends, numbers) = (Lent::new(&list.ends, 0), nodes(&list.numbers));
+    let out = nodes(&(0..room).map(|i| 0x1234 ^ i as u16).collect::<Vec<u16>>());
+    let ask = |call: MarcHeading| {
+        let mut out = out.clone();
+        let known = Known { text: text.part(), ends: ends.part(), numbers: numbers.part() };
+        let answer = call(lent.part(), known, HEADING, absent, out.part_mut());
+        assert!(out.guarded());
+        (answer, out)
+    };
+    let (ours, plain) = (ask(proved::marc_heading), ask(plain::marc_heading));
+    assert!(ours == plain, "{:?} and {:?} for {:?} by {:?} absent {}", ours, plain, record, list, absent);
+    assert!(lent.part() == record && lent.guarded() && text.part() == list.text && text.guarded());
+    assert!(ends.part() == list.ends && ends.guarded() && numbers.part() == list.numbers && numbers.guarded());
+    let (answer, after) = ours;
+    answer.map_err(|refusal| {
+        assert!(after == out);
+        refusal
+    })?;
+    let (written, rest) = after.part().split_at(RECORD_NODES);
+    assert!(written[0] == HEADING && *rest == out.part()[RECORD_NODES..]);
+    Ok([written[0], written[1], written[2]])
 }
 
 /// Tells how many questions were compared, and that they were as many as there should be.

@@ -1,6 +1,8 @@
 //! Worked examples with their answers, asked of both implementations.
 
+use crate::asks::marc_heading;
 use crate::draw::Drawn;
+use crate::records::{record_of, Field, List};
 use crate::X;
 use shuuxideg::{plain, proved, MatchHeading, Refusal, WORDS};
 
@@ -106,4 +108,82 @@ fn of_own_degrees() {
         let spans = spans_of(500, &[0, X, 0, X, X + 31], &[0, 5, 0, 6, 7]);
         assert_eq!((&spans[..4], &spans[124..]), (&[0, 1, 500, 700][..], &[1, 1, 700, 1000][..]));
     }
+}
+
+/// The nodes of the name and the dates, or number and place.
+fn read(record: &[u8], strings: &[(&str, u16)]) -> Result<(u16, u16), (u16, u64)> {
+    let (strings, numbers): (Vec<_>, Vec<_>) =
+        strings.iter().map(|(string, number)| (string.as_bytes().to_vec(), *number)).unzip();
+    match marc_heading(record, &List::new(&strings, numbers), 8, 4) {
+        Ok([_, name, dates]) => Ok((name, dates)),
+        Err(refusal) => Err((refusal.number, refusal.place)),
+    }
+}
+
+const STRINGS: [(&str, u16); 3] = [("Goethe", 3), ("1749-1832", 5), ("A\x1eB", 6)];
+
+fn record(fields: &[(&str, &str)]) -> Vec<u8> {
+    let field = |(tag, bytes): &(&str, &str)| {
+        let tag = tag.as_bytes();
+        Field { tag: [tag[0], tag[1], tag[2]], bytes: bytes.as_bytes().to_vec() }
+    };
+    record_of(&fields.iter().map(field).collect::<Vec<_>>())
+}
+
+#[test]
+fn of_fields() {
+    let of = |bytes: &str| read(&record(&[("1X0", "7"), ("100", bytes)]), &STRINGS);
+    assert_eq!(of("1 \x1faGoethe\x1fd1749-1832"), Ok((3, 5)));
+    assert_eq!(of("1 \x1fd1749-1832\x1faGoethe\x1faGoethe,"), Ok((3, 5)));
+    assert_eq!(of("1 \x1faGoethe"), Ok((3, 8)));
+    assert_eq!(of("1 junk\x1faGoethe"), Ok((3, 8)));
+    assert_eq!(of("1 \x1f\x1faGoethe\x1f"), Ok((3, 8)));
+    assert_eq!(of("\x1f\x1f\x1faGoethe"), Ok((3, 8)));
+    assert_eq!(of("1 \x1faA\x1eB"), Ok((6, 8)));
+    assert_eq!(of("1 \x1faGoethe,"), Err((22, 0)));
+    assert_eq!(of("1 \x1faGoeth\x1fdborn"), Err((22, 0)));
+    assert_eq!(of("1 \x1faGoethe\x1fd"), Err((22, 1)));
+    assert_eq!(of("1 \x1fa"), Err((22, 0)));
+    assert_eq!(of("1 \x1fAGoethe"), Err((21, 0)));
+    assert_eq!(of("\x1faGoethe"), Err((21, 0)));
+    assert_eq!(of("1"), Err((21, 0)));
+    assert_eq!(of(""), Err((21, 0)));
+    assert_eq!(read(&record(&[("110", "1 \x1faGoethe")]), &STRINGS), Err((20, 0)));
+    assert_eq!(read(&record(&[]), &STRINGS), Err((20, 0)));
+    let first_without = record(&[("100", "1 \x1fd1749-1832"), ("100", "1 \x1faGoethe")]);
+    assert_eq!(read(&first_without, &STRINGS), Err((21, 0)));
+}
+
+#[test]
+fn of_frames() {
+    let whole = record(&[("100", "1 \x1faGoethe")]);
+    assert_eq!((whole.len(), read(&whole, &STRINGS)), (49, Ok((3, 8))));
+    let with = |at: usize, bytes: &str| {
+        let mut changed = whole.clone();
+        changed.splice(at..at + bytes.len(), bytes.bytes());
+        read(&changed, &STRINGS)
+    };
+    assert_eq!(with(0, "00048"), Err((17, 0)));
+    assert_eq!(read(&whole[..25], &STRINGS), Err((17, 0)));
+    for base in ["00013", "00024", "00036", "00038", "00049", "0003x"] {
+        assert_eq!(with(12, base), Err((17, 12)), "{}", base);
+    }
+    assert_eq!(with(27, "0000"), Err((17, 27)));
+    assert_eq!(with(27, "001 "), Err((17, 27)));
+    assert_eq!(with(27, "9999"), Err((17, 31)));
+    assert_eq!(with(27, "0012"), Err((17, 31)));
+    assert_eq!(with(31, "00001"), Err((17, 31)));
+    assert_eq!(with(36, "x"), Err((17, 36)));
+    assert_eq!(with(47, "x"), Err((17, 47)));
+    assert_eq!(with(48, "x"), Err((17, 48)));
+}
+
+#[test]
+fn of_lists() {
+    let whole = record(&[("100", "1 \x1faB")]);
+    assert_eq!(read(&whole, &[("A", 5), ("B", 5)]), Ok((5, 8)));
+    assert_eq!(read(&whole, &[("A", 8), ("B", 1), ("B", 2)]), Err((19, 0)));
+    assert_eq!(read(&whole, &[("A", 1), ("B", 2), ("A", 3), ("B", 8)]), Err((19, 2)));
+    assert_eq!(read(&[], &[("", 1), ("", 2)]), Err((19, 1)));
+    assert_eq!(read(&[], &[]), Err((17, 0)));
 }

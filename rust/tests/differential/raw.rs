@@ -2,7 +2,8 @@
 
 use crate::asks::told;
 use crate::draw::{damaged, damaged_file, damaged_pairs, Draw, Drawn};
-use shuuxideg::{ffi, plain, Refusal, WORDS};
+use crate::records;
+use shuuxideg::{ffi, plain, Known, Refusal, WORDS};
 
 const BEFORE: u16 = 4711;
 
@@ -29,9 +30,10 @@ fn answers_through_pointers() {
         degrees(&file, &pattern, &heading, draw.one(&[0, 1, 500, 700]));
         writing(&mut draw, &table);
         widening(&mut draw);
-        asked += 8;
+        record(&mut draw);
+        asked += 9;
     }
-    told("raw, answers through pointers", asked, 24_000);
+    told("raw, answers through pointers", asked, 27_000);
 }
 
 fn numbers(draw: &mut Draw, file: &[u8]) {
@@ -123,4 +125,36 @@ fn widening(draw: &mut Draw) {
         unsafe { ffi::shx_widen(words.as_ptr(), words.len(), out.as_mut_ptr(), out.len(), &mut written) };
     let plain = plain::widen(&words, &mut out);
     assert_eq!((ours, written), (answer(&plain), plain.unwrap_or(usize::from(BEFORE))));
+}
+
+/// Three strings, a record of them, whole or not, and the answer of 64 bits.
+fn record(draw: &mut Draw) {
+    let strings = records::strings(draw, 3);
+    let list = records::List::drawn(draw, &strings);
+    let mut record = records::record(draw, &strings);
+    if draw.chance(40) {
+        record = records::damaged(draw, &record);
+    }
+    let (heading, absent, mut nodes) = (draw.node(), draw.node(), vec![BEFORE; draw.below(6)]);
+    let mut after = nodes.clone();
+    let ours = unsafe {
+        ffi::shx_marc_heading(
+            record.as_ptr(),
+            record.len(),
+            list.text.as_ptr(),
+            list.text.len(),
+            list.ends.as_ptr(),
+            list.ends.len(),
+            list.numbers.as_ptr(),
+            list.numbers.len(),
+            heading,
+            absent,
+            nodes.as_mut_ptr(),
+            nodes.len(),
+        )
+    };
+    let known = Known { text: &list.text, ends: &list.ends, numbers: &list.numbers };
+    let plain = plain::marc_heading(&record, known, heading, absent, &mut after);
+    let answer = plain.map_or_else(|refusal| refusal.place << 16 | u64::from(refusal.number), |_| 0);
+    assert_eq!((ours, nodes), (answer, after));
 }
