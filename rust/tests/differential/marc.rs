@@ -41,8 +41,7 @@ impl Met {
     }
 
     fn all_met(&self, times: usize) -> bool {
-        let all = self.numbers.iter().chain(&self.frames).chain(&self.unlisted);
-        all.fold(true, |met, &count| met && count >= times)
+        self.numbers.iter().chain(&self.frames).chain(&self.unlisted).all(|&met| met >= times)
     }
 }
 
@@ -163,11 +162,11 @@ fn records_in(mut bytes: &[u8]) -> Vec<&[u8]> {
     records
 }
 
-/// Records that other programs made, and damaged ones: the files of tests/marc, whole and cut into records.
+/// Records that other programs made, and damaged ones: the files of tests/marc, if they are there, whole and cut into records.
 #[test]
 fn stored_records() {
     let folder = Path::new(file!()).with_file_name("../../../tests/marc");
-    let names = ["Strauss, Johann,", "Strauss, Johann", "1804-1849", "1825-1899", "Strauss, Johann Baptist", ""];
+    let names = ["Strauss, Johann,", "Strauss, Johann", "1804-1849", "1825-1899", "Strauss, J.", ""];
     let list = List::new(&names.map(|name| name.as_bytes().to_vec()), vec![3, 3, 5, 6, 3, 9]);
     let mut met = Met::default();
     for kind in ["made", "damaged"] {
@@ -178,5 +177,7 @@ fn stored_records() {
             records_in(&bytes).iter().for_each(|record| met.ask(record, &list, 8, RECORD_NODES));
         }
     }
-    told("exchange records, stored", met.asked, if folder.exists() { 100 } else { 0 });
+    let there = folder.exists();
+    assert!(!there || met.numbers[0] >= 30 && met.frames.iter().all(|&times| times > 0), "{:?}", met);
+    told("exchange records, stored", met.asked, if there { 200 } else { 0 });
 }
