@@ -46,7 +46,7 @@ impl<'a> Known<'a> {
     fn rises(&self) -> bool {
         let mut strings = self.strings();
         let first = strings.next();
-        first.map_or(true, |first| strings.try_fold(first, |one, next| (one < next).then(|| next)).is_some())
+        first.map_or(true, |first| strings.try_fold(first, |one, next| (one < next).then_some(next)).is_some())
     }
 
     /// The first string that is listed before, where they are few: each against those before it.

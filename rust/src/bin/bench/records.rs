@@ -30,7 +30,7 @@ impl List {
         List { text, ends: ends.collect(), numbers: (2..).take(strings.len()).collect() }
     }
 
-    pub fn lent(&self) -> Known {
+    pub fn lent(&self) -> Known<'_> {
         Known { text: &self.text, ends: &self.ends, numbers: &self.numbers }
     }
 }
