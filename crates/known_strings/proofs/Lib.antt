@@ -1,7 +1,6 @@
--- Laws that the proofs of functions cite: of two strings (`Bytes`), of the lent lists (`Entries`), of the test (`Testing`), of strings at first sight
--- (`Seeing`), and of a search (`Seeking`).
+-- Laws that the proofs of functions cite: of two strings (`Bytes`, `Words`), of the lent lists (`Entries`), of the test (`Testing`) and of a search (`Seeking`).
 pub mod Bytes
+pub mod Words
 pub mod Entries
 pub mod Testing
-pub mod Seeing
 pub mod Seeking

@@ -1,5 +1,4 @@
--- What the code on the list says of two strings (`Compared`), of a string by the lent lists (`Lent`), at first sight (`Slots`), and of a whole list (`Checks`).
+-- What the code on the list says of two strings (`Compared`), of a string by the lent lists (`Lent`), and of a whole list (`Checks`).
 pub mod Compared
 pub mod Lent
-pub mod Slots
 pub mod Checks

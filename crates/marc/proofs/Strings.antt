@@ -37,13 +37,14 @@ not-same xs ys n = go (same xs ys) refl
     go true e = absurd (n (same-true xs ys e))
     go false e = e
 
+-- LAW: no number below n passes
+pub none-of : (n : ℕ) (b : ℕ → Bool) → ((i : ℕ) → i < n → b i ≡ false) → some n b ≡ false
+none-of zero b h = refl
+none-of (suc n) b h = rw (h n (omega arith)) (none-of n b (λ i l. h i (omega arith)))
+
 -- LAW: a string that none before it is, is the same as none of them
 pub none-same : (string : ℕ → List ℕ) (j : ℕ) → ((i : ℕ) → i < j → string i ≡ string j → ⊥) → some j (λ i. same (string i) (string j)) ≡ false
-none-same string j h = none-of j (λ i l. not-same (string i) (string j) (h i l))
-  where
-    none-of : (n : ℕ) → ((i : ℕ) → i < n → same (string i) (string j) ≡ false) → some n (λ i. same (string i) (string j)) ≡ false
-    none-of zero h = refl
-    none-of (suc n) h = rw (h n (omega arith)) (none-of n (λ i l. h i (omega arith)))
+none-same string j h = none-of j (λ i. same (string i) (string j)) (λ i l. not-same (string i) (string j) (h i l))
 
 -- the first entry with that string
 record Found (ks : List Known) (string : List ℕ) (number : ℕ) : Type 0 where
