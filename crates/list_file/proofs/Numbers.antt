@@ -79,7 +79,7 @@ module _ (file : List ℕ) (at value i : ℕ) (p : Passing file at value i) wher
           let e : at ≡ i = omega (arith, p .rising) in
           record { part = []; all = tt; worth = sym (p .none-yet (sym e)); begins = ap (λ j. drop j file) e }
 
-  -- digits that were passed and are more than those of any number
+  -- a number that stands there begins with the digits that were passed, and with those behind them
   passed-on : (more : List ℕ) → All Digit more → (rest : List ℕ) → drop i file ≡ more ++ rest → (n c : ℕ) (left : List ℕ) → isDigit c ≡ false → drop at file ≡ decimal n ++ (c ∷ left)
       → GoesOn (passed .part ++ more) (decimal n) rest c left
   passed-on more all rest e n c left other f =

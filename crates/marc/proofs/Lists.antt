@@ -38,7 +38,7 @@ pub line-long : (k : Known) → 3 + length (stringOf k) ≤ length (lineOf k)
 line-long (known s n) = omega (arith, decimal-some n, length-append (decimal n) (32 ∷ (s ++ (10 ∷ []))), length-append s (10 ∷ []))
 
 -- LAW: no line begins where the file ends
-pub none-at-end : NoLine []
+none-at-end : NoLine []
 none-at-end k left l e = omega (arith, ap length e, length-append (lineOf k) left, line-long k)
 
 -- ---- all lines

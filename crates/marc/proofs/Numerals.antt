@@ -22,7 +22,7 @@ abbrev pub valueBehind : ℕ → List ℕ → ℕ
 valueBehind so [] = so
 valueBehind so (b ∷ bs) = valueBehind (so * 10 + (b - 48)) bs
 
-pub is-digit : (d : ℕ) → d < 10 → Digit (48 + d)
+is-digit : (d : ℕ) → d < 10 → Digit (48 + d)
 is-digit d l = rw (le-leb 48 (48 + d) (omega arith), le-leb (48 + d) 57 (omega arith))
 
 digits-all : (k n : ℕ) (text : List ℕ) → All Digit text → All Digit (digits k n text)

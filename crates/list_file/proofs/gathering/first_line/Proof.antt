@@ -1,18 +1,25 @@
 -- Each test is a law on the line's two fields.
 use borrow.Author.Needs.{needs}
 use mathlib.Core.Path.{subst}
-use Prim.Native.Nat.{_+_}
+use mathlib.Core.List.{List}
+use Prim.Native.Nat.{ℕ, _+_}
 use native.Mathlib.Omega.{arith}
 use Rattle.list_file.specs.Numerals.{Valued, NumeralBy}
 use Rattle.list_file.proofs.Fields.{first-none, first-unparted, first-half, first-long, first-is}
 use Rattle.list_file.proofs.gathering.first_line.Statement.{statement}
 use Rattle.list_file.proofs.gathering.first_line.Tie as tie
 
-one : (c : tie.After-known-told) → Valued (c .before .before .before .before .before .args .file .now) 0 (c .before .heading .given .0 .0) (c .before .heading .given .0 .1 .0)
-one c = subst (NumeralBy (c .before .before .before .before .before .args .file .now) 0) (c .before .heading .given .1) (c .before .before .before .read-number .ensures)
+abbrev bytes : tie.After-known-told → List ℕ
+bytes c = c .before .before .before .before .before .args .file .now
 
-two : (c : tie.After-known-told2) → Valued (c .before .before .before .before .before .before .before .before .before .before .before .args .file .now) (c .before .before .before .before .before .before .before .heading .given .0 .1 .0 + 1) (c .before .absent .given .0 .0) (c .before .absent .given .0 .1 .0)
-two c = subst (NumeralBy (c .before .before .before .before .before .before .before .before .before .before .before .args .file .now) (c .before .before .before .before .before .before .before .heading .given .0 .1 .0 + 1)) (c .before .absent .given .1) (c .before .before .before .read-number2 .ensures)
+abbrev blank : tie.After-known-told → ℕ
+blank c = c .before .heading .given .0 .1 .0
+
+one : (c : tie.After-known-told) → Valued (bytes c) 0 (c .before .heading .given .0 .0) (blank c)
+one c = subst (NumeralBy (bytes c) 0) (c .before .heading .given .1) (c .before .before .before .read-number .ensures)
+
+two : (c : tie.After-known-told2) → Valued (bytes (c .before .before .before .before .before .before)) (blank (c .before .before .before .before .before .before) + 1) (c .before .absent .given .0 .0) (c .before .absent .given .0 .1 .0)
+two c = subst (NumeralBy (bytes (c .before .before .before .before .before .before)) (blank (c .before .before .before .before .before .before) + 1)) (c .before .absent .given .1) (c .before .before .before .read-number2 .ensures)
 
 read-number-requires : tie.Need-read-number-requires
 read-number-requires c κs = search needs
@@ -54,7 +61,9 @@ returns-3 : tie.Need-returns-3
 returns-3 c = first-none _ (subst (NumeralBy (c .before .before .before .before .args .file .now) 0) (c .enum-told .given .1) (c .before .before .read-number .ensures))
 
 returns-4 : tie.Need-returns-4
-returns-4 c = first-half _ _ _ (one (c .before .before .before .before .before)) (subst (NumeralBy (c .before .before .before .before .before .before .before .before .before .before .args .file .now) (c .before .before .before .before .before .before .heading .given .0 .1 .0 + 1)) (c .enum-told2 .given .1) (c .before .before .read-number2 .ensures))
+returns-4 c =
+    let s = c .before .before .before .before .before in
+    first-half _ _ _ (one s) (subst (NumeralBy (bytes s) (blank s + 1)) (c .enum-told2 .given .1) (c .before .before .read-number2 .ensures))
 
 returns-5 : tie.Need-returns-5
 returns-5 c = first-is _ _ _ (one (c .before .before .before .before .before .before .before .before)) _ _ (two (c .before .before)) (c .before .before .before .before .before .before .if1 .left) (c .if2 .left)

@@ -1,7 +1,8 @@
 -- What has been gathered at a turn's start is the list of the bytes before it.
 use borrow.Author.Needs.{needs}
 use mathlib.Core.Path.{_≡_, refl, subst, _∙_}
-use Prim.Native.Nat.{_+_, _-_, _≤_, _<_}
+use mathlib.Core.List.{List}
+use Prim.Native.Nat.{ℕ, _+_, _*_, _-_, _≤_, _<_}
 use native.Mathlib.Omega.{arith}
 use lib.ListN.{length, set, length-set}
 use Rattle.marc.specs.ListFile.{at-first}
@@ -17,29 +18,51 @@ Inv-loop file text₀ ends₀ numbers₀ heading absent behind at₀ used₀ n�
 abbrev μ-loop : tie.MeasureT-loop
 μ-loop file text₀ ends₀ numbers₀ heading absent behind at₀ used₀ n₀ text ends numbers at used n = length file - at
 
+-- where a turn with a line has begun, what its call of `next_line` left as the text, and what the call told: the number, the byte behind the line, and
+-- where the text ends
+abbrev start : tie.After-known-told2 Inv-loop μ-loop → tie.Start Inv-loop μ-loop
+start c = c .before .before .before .before .before .before .before .before .before .before .before .before .before .before .before .before .before
+
+abbrev turn : tie.After-known-told2 Inv-loop μ-loop → tie.At-loop Inv-loop μ-loop
+turn c = c .before .before .before .before .before .before .before .before
+
+abbrev after : tie.After-known-told2 Inv-loop μ-loop → List ℕ
+after c = c .before .before .before .before .before .next-line .last .1 .1 .0
+
+abbrev number : tie.After-known-told2 Inv-loop μ-loop → ℕ
+number c = c .before .number .given .0 .0
+
+abbrev next : tie.After-known-told2 Inv-loop μ-loop → ℕ
+next c = c .before .number .given .0 .1 .0
+
+abbrev to : tie.After-known-told2 Inv-loop μ-loop → ℕ
+to c = c .before .number .given .0 .1 .1 .0
+
 -- the line that was read
-line : (c : tie.After-known-told2 Inv-loop μ-loop)
-    → Strings (c .before .before .before .before .before .before .before .before .before .before .before .before .before .before .before .before .before .args .file .now) (c .before .before .before .before .before .before .before .before .loop .text) (c .before .before .before .before .before .next-line .last .1 .1 .0) (c .before .before .before .before .before .before .before .before .loop .at) (c .before .before .before .before .before .before .before .before .loop .used) (c .before .number .given .0 .0) (c .before .number .given .0 .1 .0) (c .before .number .given .0 .1 .1 .0)
+line : (c : tie.After-known-told2 Inv-loop μ-loop) → Strings (start c .args .file .now) (turn c .loop .text) (after c) (turn c .loop .at) (turn c .loop .used) (number c) (next c) (to c)
 line c =
-    let loop = c .before .before .before .before .before .before .before .before .loop in
-    subst (LineBy (c .before .before .before .before .before .before .before .before .before .before .before .before .before .before .before .before .before .args .file .now) (loop .text) (c .before .before .before .before .before .next-line .last .1 .1 .0) (loop .at) (loop .used)) (c .before .number .given .1) (c .before .before .before .before .before .next-line .ensures)
+    let loop = turn c .loop in
+    subst (LineBy (start c .args .file .now) (loop .text) (after c) (loop .at) (loop .used)) (c .before .number .given .1) (c .before .before .before .before .before .next-line .ensures)
 
 -- there is room for it
-room : (c : tie.After-known-told2 Inv-loop μ-loop) → (c .before .before .before .before .before .before .before .before .loop .n < length (c .before .before .before .before .before .before .before .before .loop .ends)) × (c .before .before .before .before .before .before .before .before .loop .n < length (c .before .before .before .before .before .before .before .before .loop .numbers))
+room : (c : tie.After-known-told2 Inv-loop μ-loop) → (turn c .loop .n < length (turn c .loop .ends)) × (turn c .loop .n < length (turn c .loop .numbers))
 room c =
-    let s = c .before .before .before .before .before .before .before .before .before .before .before .before .before .before .before .before .before in
-    let inv = c .before .before .before .before .before .before .before .before .loop .inv in
-    (omega (arith, inv .1, inv .3 .few, c .before .before .before .before .before .before .before .loop-test .taken, s .pre .1 .0), omega (arith, inv .2, inv .3 .few, c .before .before .before .before .before .before .before .loop-test .taken, s .pre .1 .1))
+    let inv = turn c .loop .inv in
+    let test = c .before .before .before .before .before .before .before .loop-test .taken in
+    (omega (arith, inv .1, inv .3 .few, test, start c .pre .1 .0), omega (arith, inv .2, inv .3 .few, test, start c .pre .1 .1))
 
 grown : (c : tie.After-known-told2 Inv-loop μ-loop)
-    → let loop = c .before .before .before .before .before .before .before .before .loop in
+    → let loop = turn c .loop in
     let heading = c .before .before .before .before .before .before .before .before .before .before .heading .given .0 in
-    let told = c .before .number .given .0 in
-    (loop .at < told .1 .0) × (told .1 .1 .0 ≤ told .1 .0)
-    × Growing (c .before .before .before .before .before .before .before .before .before .before .before .before .before .before .before .before .before .args .file .now) (c .before .before .before .before .before .next-line .last .1 .1 .0) (set (loop .ends) (loop .n) (told .1 .1 .0)) (set (loop .numbers) (loop .n) (told .0)) (heading .0) (heading .1 .0) (told .1 .0) (told .1 .1 .0) (loop .n + 1)
+    (loop .at < next c) × (to c ≤ next c)
+    × Growing (start c .args .file .now) (after c) (set (loop .ends) (loop .n) (to c)) (set (loop .numbers) (loop .n) (number c)) (heading .0) (heading .1 .0) (next c) (to c) (loop .n + 1)
 grown c =
-    let inv = c .before .before .before .before .before .before .before .before .loop .inv in
-    growing-next _ _ _ _ _ _ _ _ _ (inv .3) (omega (arith, inv .0, c .before .before .before .before .before .before .before .before .before .before .before .before .before .before .before .before .before .pre .0 .0)) (room c .0) (room c .1) _ _ _ _ (line c)
+    let inv = turn c .loop .inv in
+    growing-next _ _ _ _ _ _ _ _ _ (inv .3) (omega (arith, inv .0, start c .pre .0 .0)) (room c .0) (room c .1) _ _ _ _ (line c)
+
+-- and its place can be counted
+few : (c : tie.After-known-told2 Inv-loop μ-loop) → 3 * turn c .loop .n < 4294967296
+few c = let g = turn c .loop .inv .3 in omega (arith, g .few, g .within, start c .pre .0 .1)
 
 first-line-requires : tie.Need-first-line-requires Inv-loop μ-loop
 first-line-requires c κs = search needs
@@ -83,29 +106,29 @@ enum-known-number : tie.Need-enum-known-number Inv-loop μ-loop
 enum-known-number c = search needs
 
 cast-ends : tie.Need-cast-ends Inv-loop μ-loop
-cast-ends c = omega (arith, grown c .1, line c .within, c .before .before .before .before .before .before .before .before .before .before .before .before .before .before .before .before .before .pre .0 .1)
+cast-ends c = omega (arith, grown c .1, line c .within, start c .pre .0 .1)
 
 mul-ends : tie.Need-mul-ends Inv-loop μ-loop
-mul-ends c = let g = c .before .before .before .before .before .before .before .before .loop .inv .3 in omega (arith, g .few, g .within, c .before .before .before .before .before .before .before .before .before .before .before .before .before .before .before .before .before .pre .0 .1)
+mul-ends c = omega (arith, few c)
 
 slice-write-ends : tie.Need-slice-write-ends Inv-loop μ-loop
 slice-write-ends c = room c .0
 
 mul-numbers : tie.Need-mul-numbers Inv-loop μ-loop
-mul-numbers c = let g = c .before .before .before .before .before .before .before .before .loop .inv .3 in omega (arith, g .few, g .within, c .before .before .before .before .before .before .before .before .before .before .before .before .before .before .before .before .before .pre .0 .1)
+mul-numbers c = omega (arith, few c)
 
 slice-write-numbers : tie.Need-slice-write-numbers Inv-loop μ-loop
 slice-write-numbers c = room c .1
 
 add-n : tie.Need-add-n Inv-loop μ-loop
-add-n c = let g = c .before .before .before .before .before .before .before .before .loop .inv .3 in omega (arith, g .few, g .within, c .before .before .before .before .before .before .before .before .before .before .before .before .before .before .before .before .before .pre .0 .1)
+add-n c = omega (arith, few c)
 
 loop-less : tie.Need-loop-less Inv-loop μ-loop
 loop-less c = omega (arith, grown c .0, line c .within)
 
 loop-again : tie.Need-loop-again Inv-loop μ-loop
 loop-again c =
-    let loop = c .before .before .before .before .before .before .before .before .loop in
+    let loop = turn c .loop in
     (c .before .before .before .before .before .next-line .kept .1 .1 .0 ∙ loop .inv .0, length-set (loop .ends) (loop .n) _ ∙ loop .inv .1, length-set (loop .numbers) (loop .n) _ ∙ loop .inv .2, grown c .2)
 
 returns-2 : tie.Need-returns-2 Inv-loop μ-loop

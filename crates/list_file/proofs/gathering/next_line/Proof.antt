@@ -10,8 +10,8 @@ use Rattle.list_file.proofs.Fields.{valued-on, line-none, line-unparted
 use Rattle.list_file.proofs.gathering.next_line.Statement.{statement}
 use Rattle.list_file.proofs.gathering.next_line.Tie as tie
 
-one : (c : tie.After-known-told) → Valued (c .before .before .before .before .before .before .args .file .now) (c .before .before .before .before .before .before .args .at) (c .before .number .given .0 .0) (c .before .number .given .0 .1 .0)
-one c = subst (NumeralBy (c .before .before .before .before .before .before .args .file .now) (c .before .before .before .before .before .before .args .at)) (c .before .number .given .1) (c .before .before .before .read-number .ensures)
+one : (c : tie.After-known-told) → let a = c .before .before .before .before .before .before .args in Valued (a .file .now) (a .at) (c .before .number .given .0 .0) (c .before .number .given .0 .1 .0)
+one c = let a = c .before .before .before .before .before .before .args in subst (NumeralBy (a .file .now) (a .at)) (c .before .number .given .1) (c .before .before .before .read-number .ensures)
 
 read-number-requires : tie.Need-read-number-requires
 read-number-requires c κs = search needs
@@ -64,7 +64,9 @@ add-t14 : tie.Need-add-t14
 add-t14 c = search needs
 
 returns-3 : tie.Need-returns-3
-returns-3 c = line-none (c .before .before .before .before .before .args .file .now) (c .before .before .before .before .before .args .at) (subst (NumeralBy (c .before .before .before .before .before .args .file .now) (c .before .before .before .before .before .args .at)) (c .enum-told .given .1) (c .before .before .read-number .ensures))
+returns-3 c =
+    let a = c .before .before .before .before .before .args in
+    line-none (a .file .now) (a .at) (subst (NumeralBy (a .file .now) (a .at)) (c .enum-told .given .1) (c .before .before .read-number .ensures))
 
 same-length : tie.Need-same-length
 same-length c = search needs
