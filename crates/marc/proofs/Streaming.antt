@@ -7,10 +7,10 @@ use Prim.Native.Nat.{ℕ, zero, suc, _-_, _/_, _<_}
 use native.Mathlib.Omega.{arith}
 use lib.ListN.{length, getD, length-append, List·getD-append}
 use borrow.Author.Tests.{ne-eqb}
-use Rattle.marc.specs.Frame.{Field, recordLength}
+use Rattle.marc.specs.Frame.{Field, digitsAt, valueAt, recordLength}
 use Rattle.marc.specs.Plain.{digit, lengthOf, Holds, recordOf}
-use Rattle.marc.specs.Stream.{isBreak, behindBreaks, Coming, comes, noMore, comingIn, nextIn}
-use Rattle.marc.specs.Streaming.{LineEnds, joined, MadeUp, NothingLost, ComesWhole, ReadsBack}
+use Rattle.marc.specs.Stream.{isBreak, behindBreaks, toMark, asSaid, sizeOf, Coming, comes, noMore, comingIn, nextIn, recordsFrom, recordsIn}
+use Rattle.marc.specs.Streaming.{LineEnds, joined, MadeUp, NothingLost, ComesWhole, ReadsBack, CasesRight}
 use Rattle.marc.proofs.Digits.{digits-front, decimal-front}
 use Rattle.marc.proofs.Plain.{all-length, length-read, last-mark}
 use Rattle.marc.proofs.Streams.{Said, is-said, size-said, break-goes, break-stays, coming-is, next-parted, left-shorter, records-step, records-none}
@@ -137,3 +137,8 @@ reads-back (piece ∷ pieces) last a ends =
     ∙ comes-whole (w .one) (w .two) (w .fields) left (w .holds)
     ∙ ap (λ s. comes s left) (inv (w .bytes-are)) in
     records-step (piece .breaks ++ (piece .bytes ++ left)) (piece .bytes) left next ∙ ap (λ s. piece .bytes ∷ s) (reads-back pieces last (a .1) ends)
+
+-- by computing
+pub cases-right : CasesRight
+unfolding recordsIn recordsFrom nextIn behindBreaks sizeOf asSaid toMark digitsAt valueAt
+cases-right = (refl, (refl, (refl, (refl, (refl, (refl, (refl, tt)))))))

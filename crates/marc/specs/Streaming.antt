@@ -3,10 +3,10 @@ use mathlib.Core.Path.{_≡_}
 use mathlib.Core.List.{List, [], _∷_, _++_, map}
 use mathlib.Core.Bool.{true}
 use Prim.Native.Nat.{ℕ, _≤_}
-use lib.ListN.{length}
+use lib.ListN.{length, replicate}
 use Rattle.theory.specs.Least.{All}
 use Rattle.marc.specs.Frame.{Field}
-use Rattle.marc.specs.Plain.{Holds, recordOf}
+use Rattle.marc.specs.Plain.{fiveDigits, Holds, recordOf}
 use Rattle.marc.specs.Stream.{isBreak, comes, nextIn, recordsIn}
 
 -- Some line ends, and a record behind them.
@@ -54,3 +54,32 @@ pub record Written (piece : Piece) : Type 0 where
 -- Records that were written one behind the other, with or without line ends, are read back each, whatever their fields hold.
 abbrev pub ReadsBack : Type 0
 ReadsBack = (pieces : List Piece) (last : List ℕ) → All Written pieces → LineEnds last → recordsIn (joined pieces last) ≡ map bytesOf pieces
+
+-- ---- inputs, and their records
+
+pub data Case : Type 0 where
+  has : List ℕ → List (List ℕ) → Case
+
+abbrev pub Right : Case → Type 0
+Right (has input records) = recordsIn input ≡ records
+
+-- five digits, a 1D behind them, and blanks up to 25 bytes
+abbrev pub saying : ℕ → List ℕ
+saying n = fiveDigits n ++ (29 ∷ replicate 19 32)
+
+abbrev pub cases : List Case
+cases =
+    has (10 ∷ 13 ∷ 10 ∷ []) []
+    -- a line end belongs to no record in front of one, and to the record inside; the last one may have no mark
+    ∷ has (13 ∷ 10 ∷ 65 ∷ 10 ∷ 29 ∷ 10 ∷ 29 ∷ 66 ∷ []) ((65 ∷ 10 ∷ 29 ∷ []) ∷ (29 ∷ []) ∷ (66 ∷ []) ∷ [])
+    -- as long as it says, over a 1D
+    ∷ has (saying 26 ++ (29 ∷ 65 ∷ [])) ((saying 26 ++ (29 ∷ [])) ∷ (65 ∷ []) ∷ [])
+    -- no 1D is where it says; fewer bytes are there; too few are said; no digits
+    ∷ has (saying 26 ++ (65 ∷ 29 ∷ [])) ((fiveDigits 26 ++ (29 ∷ [])) ∷ (replicate 19 32 ++ (65 ∷ 29 ∷ [])) ∷ [])
+    ∷ has (saying 27 ++ (29 ∷ [])) ((fiveDigits 27 ++ (29 ∷ [])) ∷ (replicate 19 32 ++ (29 ∷ [])) ∷ [])
+    ∷ has (saying 25) ((fiveDigits 25 ++ (29 ∷ [])) ∷ replicate 19 32 ∷ [])
+    ∷ has (47 ∷ saying 26) ((47 ∷ (fiveDigits 26 ++ (29 ∷ []))) ∷ replicate 19 32 ∷ [])
+    ∷ []
+
+abbrev pub CasesRight : Type 0
+CasesRight = All Right cases

@@ -6,7 +6,7 @@ use Prim.Native.Nat.{ℕ, _-_, _≤_, _<_}
 use native.Mathlib.Omega.{arith}
 use lib.Dec.{ltb}
 use lib.ListN.{length, length-append}
-use borrow.Author.Tests.{ltb-false}
+use borrow.Author.Tests.{ltb-true, ltb-false}
 use Rattle.input.specs.declared.reading.Unread.{Unread}
 use Rattle.input.specs.Unreads.{ReadBy}
 use Rattle.input.proofs.Unused.{length-unread}
@@ -42,7 +42,8 @@ module _ (before : List ℕ) (rest : Rest) (wanted : ℕ) where
     more = [];
     read = nothing-more before rest held;
     follows = inv (append-nil _);
-    enough = λ not-over. let z : _≡_ {A = ℕ} 0 1 = cc in absurd (omega arith);
+    enough = λ goes-on. let z : _≡_ {A = ℕ} 0 1 = cc in absurd (omega arith);
+    ended = λ goes-on _. let z : _≡_ {A = ℕ} 0 1 = cc in absurd (omega arith);
   }
 
   -- LAW: so many bytes are there, or the input is over
@@ -58,6 +59,7 @@ module _ (before : List ℕ) (rest : Rest) (wanted : ℕ) where
     };
     follows = r .follows;
     enough = λ e. ltb-false (read .end - read .at) wanted e;
+    ended = λ _ e. ltb-true (read .end - read .at) wanted e;
   }
 
 module _ (before : List ℕ) (rest : Rest) (wanted : ℕ) (now : Rest) (after : List ℕ) (f : FilledBy before rest wanted now after) where

@@ -2,7 +2,7 @@
 use mathlib.Core.Path.{_≡_}
 use mathlib.Core.List.{List, [], _++_}
 use mathlib.Core.Bool.{true, false}
-use Prim.Native.Nat.{ℕ, _-_, _≤_}
+use Prim.Native.Nat.{ℕ, _-_, _≤_, _<_}
 use lib.ListN.{length}
 use Rattle.input.specs.Unreads.{unread}
 use Rattle.marc_input.specs.declared.rest.Rest.{Rest}
@@ -25,8 +25,10 @@ pub record MoreBy (before : List ℕ) (rest : Rest) (more : List ℕ) (now : Res
   pub may-follow : MayFollow rest more
   pub stays-over : rest .over ≡ true → now .over ≡ true
 
+-- So many bytes are wanted. The input is over only where fewer are there; then it is.
 pub record FilledBy (before : List ℕ) (rest : Rest) (wanted : ℕ) (now : Rest) (after : List ℕ) : Type 0 where
   pub more : List ℕ
   pub read : MoreBy before rest more now after
   pub follows : restIn after now ≡ restIn before rest ++ more
   pub enough : now .over ≡ false → wanted ≤ now .end - now .at
+  pub ended : rest .over ≡ false → now .over ≡ true → now .end - now .at < wanted
