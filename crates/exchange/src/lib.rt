@@ -19,6 +19,9 @@ use marc_record::fields::find_text;
 use marc_record::frame::check_frame;
 use table::rules::Place;
 
+// How many nodes a heading of a name and dates has.
+const NODES: usize = 3;
+
 // The codes of the two subfields.
 const NAME: u8 = b'a';
 
@@ -164,7 +167,7 @@ fn read_checked(
     requires { ⌜ (row19 (knownIn (now text) (now ends) (now numbers)) (given .absent) ≡ row 19 none) × MayHalve (now text) (now ends) (now numbers) (given .checked) ⌝ }
     ensures { λ r. ⌜ ReadHeading (now (bytes .entry)) (now (text .entry)) (now (ends .entry)) (now (numbers .entry)) (given .heading) (given .absent) (now (nodes .entry)) r (now (nodes .exit)) ⌝ }
 {
-    if nodes.len() < 3 {
+    if nodes.len() < NODES {
         return Headed::Refused(Fault::Room);
     }
     match read_record(bytes, text, ends, numbers, given) {

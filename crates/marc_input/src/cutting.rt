@@ -7,12 +7,12 @@ ghost use Rattle.marc.specs.Stream.{comingIn};
 ghost use Rattle.marc_input.specs.Rests.{Held, restIn};
 ghost use Rattle.marc_input.specs.Cuts.{mostBytes, ComesBy, NextBy, Says, NotAsSaid, SaidBy, ToMarkBy, endsMarked};
 use crate::passing::Passed;
-use crate::passing::RECORD_MARK;
 use crate::passing::find_mark;
 use crate::passing::pass_breaks;
 use crate::passing::pass_record;
 use crate::rest::Rest;
 use crate::rest::fill;
+use marc_record::frame::RECORD_MARK;
 use marc_record::number::digits;
 use marc_record::number::five;
 

@@ -8,9 +8,7 @@ ghost use Rattle.marc_input.specs.Rests.{Held};
 ghost use Rattle.marc_input.specs.Passing.{PassedBy, behindMark, MarkBy};
 use crate::rest::Rest;
 use crate::rest::fill;
-
-// Ends a record.
-pub const RECORD_MARK: u8 = 29;
+use marc_record::frame::RECORD_MARK;
 
 // What a line ends with: one of them, or both.
 const LINE_FEED: u8 = 10;

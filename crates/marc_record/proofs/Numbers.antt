@@ -1,13 +1,13 @@
 -- Digits read one by one, and numbers of four and five digits.
-use mathlib.Core.Path.{_≡_, refl, sym as inv, ap, _∙_}
+use mathlib.Core.Path.{_≡_, ap, _∙_}
 use mathlib.Core.List.{List}
 use mathlib.Core.Bool.{true, false}
 use Prim.Native.Nat.{ℕ, suc, _+_, _*_, _-_, _≤_, _<_}
 use native.Mathlib.Numerals.{add-one}
 use native.Mathlib.Omega.{arith}
+use borrow.Author.Tests.{leb-true}
 use lib.Dec.{leb}
 use lib.ListN.{getD}
-use borrow.Author.Tests.{leb-true}
 use Rattle.theory.proofs.Lemmas.{and-left, and-right}
 use Rattle.marc.specs.Frame.{isDigit, digitsAt, valueAt, decimalAt}
 
@@ -29,6 +29,10 @@ digit-goes r at k n l e =
 pub digits-none : (r : List ℕ) (at k n : ℕ) → n ≡ k → digitsAt r (at + k) (n - k) ≡ true
 unfolding digitsAt
 digits-none r at k n e = let z : n - k ≡ 0 = omega arith in rw z
+
+-- LAW: the bytes that are digits
+pub digit-range : (b : ℕ) → isDigit b ≡ true → (48 ≤ b) × (b ≤ 57)
+digit-range b e = (leb-true 48 b (and-left (leb 48 b) (leb b 57) e), leb-true b 57 (and-right (leb 48 b) (leb b 57) e))
 
 -- ---- numbers of four and five digits
 

@@ -10,20 +10,11 @@ use lib.Dec.{eqb, ltb}
 use lib.ListN.{length, getD}
 use Rattle.meaning.specs.Refusals.{refusal, first}
 use Rattle.theory.proofs.Lemmas.{both-false}
-use Rattle.marc.specs.Frame.{digitsAt, recordLength, baseAddress, fieldMark, recordMark, badBase, frameRows}
-use Rattle.marc_record.specs.Frames.{Directory, firstFault, firstUnmarked, markRows, fieldRows}
+use Rattle.marc.specs.Frame.{digitsAt, recordLength, baseAddress, entryCount, entryFault, fieldEnd, fieldMark, recordMark, unmarked, firstPlace, badBase, frameRows}
+use Rattle.marc_record.specs.Frames.{Directory, unended, fieldRows}
 
 module _ (r : List ℕ) where
-  -- LAW: a base address that passes is a number
-  pub base-digits : badBase r ≡ false → digitsAt r 12 5 ≡ true
-  base-digits fine =
-      let a = not (digitsAt r 12 5) in
-      let b = ltb (baseAddress r) 25 in
-      let c = not (eqb ((baseAddress r - 25) % 12) 0) in
-      let d = not (ltb (baseAddress r) (length r)) in
-      not-false _ (both-false a b (both-false (a || b) c (both-false (a || b || c) d fine .0) .0) .0)
-
-  -- LAW: and tells of a directory
+  -- LAW: a base address that passes
   pub directory : (base : ℕ) → base ≡ baseAddress r → base ≤ 99999 → badBase r ≡ false → Directory r base ((base - 25) / 12)
   directory base e small fine =
       let a = not (digitsAt r 12 5) in
@@ -38,33 +29,29 @@ module _ (r : List ℕ) where
       let high = ltb-true (baseAddress r) (length r) (not-false _ (s .1)) in
       record { base-is = e; entries-are = ap (λ b. (b - 25) / 12) e; size = omega (arith, low, twelve, e); inside = omega (arith, high, e); small = small }
 
-  -- LAW: the rows of the marks
-  pub at-directory : (getD r (baseAddress r - 1) 0 ≡ fieldMark → ⊥) → just (refusal 17 (baseAddress r - 1)) ≡ first (markRows r)
-  unfolding markRows
-  at-directory n = rw (ne-eqb (getD r (baseAddress r - 1) 0) fieldMark n)
-
-  module _ (marked : getD r (baseAddress r - 1) 0 ≡ fieldMark) where
-    pub at-field : (p : ℕ) → firstUnmarked r ≡ just p → just (refusal 17 p) ≡ first (markRows r)
-    unfolding markRows
-    at-field p e = rw (eq-eqb (getD r (baseAddress r - 1) 0) fieldMark marked, e)
-
-    module _ (fields : firstUnmarked r ≡ none) where
-      pub at-end : (getD r (length r - 1) 0 ≡ recordMark → ⊥) → just (refusal 17 (length r - 1)) ≡ first (markRows r)
-      unfolding markRows
-      at-end n = rw (eq-eqb (getD r (baseAddress r - 1) 0) fieldMark marked, fields, ne-eqb (getD r (length r - 1) 0) recordMark n)
-
-      pub at-none : getD r (length r - 1) 0 ≡ recordMark → none ≡ first (markRows r)
-      unfolding markRows
-      at-none e = rw (eq-eqb (getD r (baseAddress r - 1) 0) fieldMark marked, fields, eq-eqb (getD r (length r - 1) 0) recordMark e)
-
-  -- LAW: the entries come before them
-  pub at-entry : (p : ℕ) → firstFault r ≡ just p → just (refusal 17 p) ≡ first (fieldRows r)
+  -- LAW: the rows behind the leader
+  pub at-entry : (p : ℕ) → firstPlace (entryCount r) (entryFault r) ≡ just p → just (refusal 17 p) ≡ first (fieldRows r)
   unfolding fieldRows
   at-entry p e = rw e
 
-  pub behind-entries : firstFault r ≡ none → first (markRows r) ≡ first (fieldRows r)
-  unfolding fieldRows
-  behind-entries e = rw e
+  module _ (entries : firstPlace (entryCount r) (entryFault r) ≡ none) where
+    pub at-directory : (getD r (baseAddress r - 1) 0 ≡ fieldMark → ⊥) → just (refusal 17 (baseAddress r - 1)) ≡ first (fieldRows r)
+    unfolding fieldRows
+    at-directory n = rw (entries, ne-eqb (getD r (baseAddress r - 1) 0) fieldMark n)
+
+    module _ (marked : getD r (baseAddress r - 1) 0 ≡ fieldMark) where
+      pub at-field : (p : ℕ) → firstPlace (entryCount r) (unended r) ≡ just p → just (refusal 17 p) ≡ first (fieldRows r)
+      unfolding fieldRows
+      at-field p e = rw (entries, eq-eqb (getD r (baseAddress r - 1) 0) fieldMark marked, e)
+
+      module _ (fields : firstPlace (entryCount r) (unended r) ≡ none) where
+        pub at-end : (getD r (length r - 1) 0 ≡ recordMark → ⊥) → just (refusal 17 (length r - 1)) ≡ first (fieldRows r)
+        unfolding fieldRows
+        at-end n = rw (entries, eq-eqb (getD r (baseAddress r - 1) 0) fieldMark marked, fields, ne-eqb (getD r (length r - 1) 0) recordMark n)
+
+        pub at-none : getD r (length r - 1) 0 ≡ recordMark → none ≡ first (fieldRows r)
+        unfolding fieldRows
+        at-none e = rw (entries, eq-eqb (getD r (baseAddress r - 1) 0) fieldMark marked, fields, eq-eqb (getD r (length r - 1) 0) recordMark e)
 
   -- LAW: the rows before them
   pub too-short : length r < 26 → just (refusal 17 0) ≡ first (frameRows r)
@@ -87,5 +74,5 @@ module _ (r : List ℕ) where
         at-base e = rw (le-ltb (length r) 26 long, number, eq-eqb (recordLength r) (length r) size, e)
 
         pub behind-leader : badBase r ≡ false → first (fieldRows r) ≡ first (frameRows r)
-        unfolding frameRows fieldRows markRows
+        unfolding frameRows fieldRows
         behind-leader e = rw (le-ltb (length r) 26 long, number, eq-eqb (recordLength r) (length r) size, e)

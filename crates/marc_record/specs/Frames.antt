@@ -6,13 +6,13 @@ use Prim.Native.Nat.{ℕ, _+_, _*_, _-_, _≤_, _<_}
 use lib.ListN.{length}
 use Rattle.meaning.specs.Refusals.{Refusal, refusal, Row, row}
 use Rattle.marc.specs.Frame.{baseAddress, entryCount, entryFault, fieldEnd, fieldMark, recordMark, unmarked, firstPlace}
-use Rattle.table.specs.declared.rules.Place.{Place}
-use Rattle.table.specs.declared.rules.Place.the-variants.{At, Nowhere}
 use Rattle.table.specs.Places.{placeIn}
 use Rattle.marc_record.specs.declared.frame.Entry.{Entry}
-use Rattle.marc_record.specs.declared.frame.Entry.the-variants.{Fault as EntryFault, Last}
+use Rattle.marc_record.specs.declared.frame.Entry.the-variants.{Bad as OneBad, Ends}
 use Rattle.marc_record.specs.declared.frame.Entries.{Entries}
-use Rattle.marc_record.specs.declared.frame.Entries.the-variants.{Fault, Read}
+use Rattle.marc_record.specs.declared.frame.Entries.the-variants.{Bad, Fine}
+use Rattle.table.specs.declared.rules.Place.{Place}
+use Rattle.table.specs.declared.rules.Place.the-variants.{At, Nowhere}
 
 -- The base address and the count of entries, as read; the directory with its mark lies inside, and the base address too.
 pub record Directory (r : List ℕ) (base entries : ℕ) : Type 0 where
@@ -22,32 +22,28 @@ pub record Directory (r : List ℕ) (base entries : ℕ) : Type 0 where
   pub inside : base < length r
   pub small : base ≤ 99999
 
--- One entry: its fault, or its field's last byte.
-abbrev pub EntryIs : List ℕ → ℕ → Entry → Type 0
-EntryIs r e (EntryFault place) = entryFault r e ≡ just place
-EntryIs r e (Last last) = (entryFault r e ≡ none) × (last ≡ fieldEnd r e - 1) × (last < length r)
+-- a field that does not end with its mark
+abbrev pub unended : List ℕ → ℕ → Option ℕ
+unended r e = unmarked r (fieldEnd r e - 1) fieldMark
 
--- the first fault of an entry, the first field without its mark
-abbrev pub firstFault : List ℕ → Option ℕ
-firstFault r = firstPlace (entryCount r) (entryFault r)
+-- What an entry tells: its fault, or where its field ends.
+abbrev pub EntryTells : List ℕ → ℕ → Entry → Type 0
+EntryTells r e (OneBad place) = entryFault r e ≡ just place
+EntryTells r e (Ends end) = (entryFault r e ≡ none) × (end ≡ fieldEnd r e) × (0 < end) × (end < length r)
 
-abbrev pub firstUnmarked : List ℕ → Option ℕ
-firstUnmarked r = firstPlace (entryCount r) (λ e. unmarked r (fieldEnd r e - 1) fieldMark)
+-- What all tell: the first fault, or the first field without its mark.
+abbrev pub EntriesTell : List ℕ → Entries → Type 0
+EntriesTell r (Bad place) = firstPlace (entryCount r) (entryFault r) ≡ just place
+EntriesTell r (Fine unmarked) = (firstPlace (entryCount r) (entryFault r) ≡ none) × (placeIn unmarked ≡ firstPlace (entryCount r) (unended r))
 
-abbrev pub EntriesAre : List ℕ → Entries → Type 0
-EntriesAre r (Fault place) = firstFault r ≡ just place
-EntriesAre r (Read found) = (firstFault r ≡ none) × (placeIn found ≡ firstUnmarked r)
-
--- the rows of the frame behind its leader, and those of its marks
-unfoldable pub markRows : List ℕ → List Row
-markRows r =
-    row 17 (unmarked r (baseAddress r - 1) fieldMark)
-    ∷ row 17 (firstUnmarked r)
+-- the rows of the frame behind its leader
+unfoldable pub fieldRows : List ℕ → List Row
+fieldRows r =
+    row 17 (firstPlace (entryCount r) (entryFault r))
+    ∷ row 17 (unmarked r (baseAddress r - 1) fieldMark)
+    ∷ row 17 (firstPlace (entryCount r) (unended r))
     ∷ row 17 (unmarked r (length r - 1) recordMark)
     ∷ []
-
-unfoldable pub fieldRows : List ℕ → List Row
-fieldRows r = row 17 (firstFault r) ∷ markRows r
 
 -- A place in the record is refused by 17.
 abbrev pub foundAt : Place → Option Refusal

@@ -9,8 +9,19 @@ ghost use Rattle.marc.specs.Subfields.{textTo, subfield};
 ghost use Rattle.marc.specs.Known.{same};
 ghost use Rattle.marc.specs.Heading.{tag100, field100};
 ghost use Rattle.marc_record.specs.Spans.{Inside, bytesOf};
+use crate::frame::BASE_ADDRESS;
+use crate::frame::ENTRY;
+use crate::frame::FIELD_LENGTH;
+use crate::frame::FIELD_START;
+use crate::frame::FIRST_BASE;
+use crate::frame::LEADER;
 use crate::number::five;
 use crate::number::four;
+
+// The byte that opens a subfield, and how many indicators stand before the first.
+const SUBFIELD_MARK: u8 = 0x1f;
+
+const INDICATORS: usize = 2;
 
 // Some bytes of a list: where they begin, and the first behind them.
 pub enum Span {
@@ -23,13 +34,13 @@ fn tag_is_100(bytes: &[u8], at: usize) -> bool
     requires { ⌜ at + 3 ≤ length (now bytes) ⌝ }
     ensures { λ r. ⌜ r ≡ same (take 3 (drop at (now (bytes .entry)))) tag100 ⌝ }
 {
-    if bytes[at] != 49 {
+    if bytes[at] != b'1' {
         return false;
     }
-    if bytes[at + 1] != 48 {
+    if bytes[at + 1] != b'0' {
         return false;
     }
-    bytes[at + 2] == 48
+    bytes[at + 2] == b'0'
 }
 
 // The first field with the tag 100, without the mark that ends it.
@@ -37,14 +48,14 @@ pub fn find_100(bytes: &[u8]) -> Span
     requires { ⌜ first (frameRows (now bytes)) ≡ none ⌝ }
     ensures { λ r. ⌜ (bytesOf (now (bytes .entry)) r ≡ field100 (now (bytes .entry))) × Inside (now (bytes .entry)) r ⌝ }
 {
-    let base = five(bytes, 12);
-    let entries = (base - 25) / 12;
+    let base = five(bytes, BASE_ADDRESS);
+    let entries = (base - FIRST_BASE) / ENTRY;
     let mut e: usize = 0;
     while e < entries {
-        let at = 24 + 12 * e;
+        let at = LEADER + ENTRY * e;
         if tag_is_100(bytes, at) {
-            let start = base + five(bytes, at + 7);
-            return Span::Of(start, start + (four(bytes, at + 3) - 1));
+            let start = base + five(bytes, at + FIELD_START);
+            return Span::Of(start, start + (four(bytes, at + FIELD_LENGTH) - 1));
         }
         e += 1;
     }
@@ -59,7 +70,7 @@ fn text_end(field: &[u8], from: usize) -> usize
     let n = field.len();
     let mut i = from;
     while i < n {
-        if field[i] == 31 {
+        if field[i] == SUBFIELD_MARK {
             return i;
         }
         i += 1;
@@ -72,10 +83,10 @@ pub fn find_text(field: &[u8], code: u8) -> Span
     ensures { λ r. ⌜ (bytesOf (now (field .entry)) r ≡ subfield code (now (field .entry))) × Inside (now (field .entry)) r ⌝ }
 {
     let n = field.len();
-    let mut i: usize = 2;
+    let mut i: usize = INDICATORS;
     while i < n {
         let next = i + 1;
-        if field[i] == 31 {
+        if field[i] == SUBFIELD_MARK {
             if next < n {
                 if field[next] == code {
                     return Span::Of(i + 2, text_end(field, i + 2));

@@ -1,128 +1,89 @@
 // The tests of a record's frame, in their order: each says where the first fault is.
 ghost use mathlib.Core.Path.{_≡_};
 ghost use mathlib.Core.Bool.{not};
-ghost use Prim.Native.Nat.{_+_, _≤_, _<_};
+ghost use Prim.Native.Nat.{_+_, _*_, _≤_, _<_};
 ghost use lib.ListN.{length};
-ghost use Rattle.meaning.specs.Refusals.{first};
 ghost use Rattle.theory.specs.Least.{orElse};
+ghost use Rattle.meaning.specs.Refusals.{first};
 ghost use Rattle.marc.specs.Frame.{baseAddress, entryAt, fieldMark, badBase, unmarked, frameRows};
 ghost use Rattle.table.specs.Places.{placeIn};
-ghost use Rattle.marc_record.specs.Frames.{Directory, EntryIs, EntriesAre, firstUnmarked, markRows, fieldRows, foundAt};
+ghost use Rattle.marc_record.specs.Frames.{Directory, EntryTells, EntriesTell, fieldRows, foundAt};
+ghost use Rattle.marc_record.specs.declared.frame.Entries.the-variants.{Fine};
 use crate::number::digits;
 use crate::number::five;
 use crate::number::four;
 use table::rules::Place;
 
-// Hex 1E and 1D: they end the directory and each field, and the record.
-const FIELD_MARK: u8 = 30;
+// How many bytes the leader has, and where in it the base address stands.
+pub const LEADER: usize = 24;
 
-pub const RECORD_MARK: u8 = 29;
+pub const BASE_ADDRESS: usize = 12;
 
-pub enum Entry {
-    // its length or its start is at fault, at this byte
-    Fault(usize),
-    // its field's last byte
-    Last(usize),
+// The base address of a record without fields: behind the leader and the directory's mark. Then there is only the record's mark.
+pub const FIRST_BASE: usize = LEADER + 1;
+
+const SHORTEST: usize = FIRST_BASE + 1;
+
+// How many bytes an entry has, and where in it the field's length and start stand.
+pub const ENTRY: usize = 12;
+
+pub const FIELD_LENGTH: usize = 3;
+
+pub const FIELD_START: usize = 7;
+
+// The bytes that end a field or the directory, and the record.
+const FIELD_MARK: u8 = 0x1e;
+
+pub const RECORD_MARK: u8 = 0x1d;
+
+// What an entry tells of its field.
+enum Entry {
+    // its fault is at this byte
+    Bad(usize),
+    // the first byte behind the field
+    Ends(usize),
 }
 
-// One entry.
+// What all entries tell.
+enum Entries {
+    // the first fault is at this byte
+    Bad(usize),
+    // none has a fault; where the first field ends that does so without its mark
+    Fine(Place),
+}
+
+// One entry: its numbers, and where its field ends.
 fn read_entry(bytes: &[u8], base: usize, e: usize) -> Entry
     requires { ⌜ (base ≡ baseAddress (now bytes)) × (base ≤ 99999) × (entryAt e + 12 ≤ length (now bytes)) ⌝ }
-    ensures { λ r. ⌜ EntryIs (now (bytes .entry)) e r ⌝ }
+    ensures { λ r. ⌜ EntryTells (now (bytes .entry)) e r ⌝ }
 {
-    let at = 24 + 12 * e;
-    if !digits(bytes, at + 3, 4) {
-        return Entry::Fault(at + 3);
+    let at = LEADER + ENTRY * e;
+    if !digits(bytes, at + FIELD_LENGTH, 4) {
+        return Entry::Bad(at + FIELD_LENGTH);
     }
-    let length = four(bytes, at + 3);
+    let length = four(bytes, at + FIELD_LENGTH);
     if length == 0 {
-        return Entry::Fault(at + 3);
+        return Entry::Bad(at + FIELD_LENGTH);
     }
-    if !digits(bytes, at + 7, 5) {
-        return Entry::Fault(at + 7);
+    if !digits(bytes, at + FIELD_START, 5) {
+        return Entry::Bad(at + FIELD_START);
     }
-    let end = base + five(bytes, at + 7) + length;
+    let end = base + five(bytes, at + FIELD_START) + length;
     if end >= bytes.len() {
-        return Entry::Fault(at + 7);
+        return Entry::Bad(at + FIELD_START);
     }
-    Entry::Last(end - 1)
+    Entry::Ends(end)
 }
 
-// The first byte without its mark: the one found before, or else this one.
-fn unmarked_at(bytes: &[u8], found: Place, at: usize) -> Place
-    requires { ⌜ at < length (now bytes) ⌝ }
-    ensures { λ r. ⌜ placeIn r ≡ orElse (placeIn found) (unmarked (now (bytes .entry)) at fieldMark) ⌝ }
+// The first place without a field's mark: one that was found before, or else this one.
+fn first_unmarked(found: Place, bytes: &[u8], last: usize) -> Place
+    requires { ⌜ last < length (now bytes) ⌝ }
+    ensures { λ r. ⌜ placeIn r ≡ orElse (placeIn found) (unmarked (now (bytes .entry)) last fieldMark) ⌝ }
 {
     match found {
         Place::At(place) => Place::At(place),
         Place::Nowhere => {
-            if bytes[at] == FIELD_MARK {
-                return Place::Nowhere;
-            }
-            Place::At(at)
-        }
-    }
-}
-
-pub enum Entries {
-    // the first entry at fault, at this byte
-    Fault(usize),
-    // all are in order; where the first field lacks its mark
-    Read(Place),
-}
-
-// All entries. A field's mark is looked at with its entry, and told if no entry is at fault.
-fn read_entries(bytes: &[u8], base: usize, entries: usize) -> Entries
-    requires { ⌜ Directory (now bytes) base entries ⌝ }
-    ensures { λ r. ⌜ EntriesAre (now (bytes .entry)) r ⌝ }
-{
-    let mut unmarked = Place::Nowhere;
-    let mut e: usize = 0;
-    while e < entries {
-        match read_entry(bytes, base, e) {
-            Entry::Fault(place) => {
-                return Entries::Fault(place);
-            }
-            Entry::Last(last) => {
-                unmarked = unmarked_at(bytes, unmarked, last);
-            }
-        }
-        e += 1;
-    }
-    Entries::Read(unmarked)
-}
-
-// Whether the base address is in order.
-fn fine_base(bytes: &[u8]) -> bool
-    requires { ⌜ 26 ≤ length (now bytes) ⌝ }
-    ensures { λ r. ⌜ badBase (now (bytes .entry)) ≡ not r ⌝ }
-{
-    if !digits(bytes, 12, 5) {
-        return false;
-    }
-    let base = five(bytes, 12);
-    if base < 25 {
-        return false;
-    }
-    if (base - 25) % 12 != 0 {
-        return false;
-    }
-    base < bytes.len()
-}
-
-// The first fault of the marks: the directory's, a field's, the record's.
-fn check_marks(bytes: &[u8], base: usize, unmarked: Place) -> Place
-    requires { ⌜ (base ≡ baseAddress (now bytes)) × (0 < base) × (base ≤ length (now bytes)) × (placeIn unmarked ≡ firstUnmarked (now bytes)) ⌝ }
-    ensures { λ r. ⌜ foundAt r ≡ first (markRows (now (bytes .entry))) ⌝ }
-{
-    if bytes[base - 1] != FIELD_MARK {
-        return Place::At(base - 1);
-    }
-    match unmarked {
-        Place::At(place) => Place::At(place),
-        Place::Nowhere => {
-            let last = bytes.len() - 1;
-            if bytes[last] != RECORD_MARK {
+            if bytes[last] != FIELD_MARK {
                 return Place::At(last);
             }
             Place::Nowhere
@@ -130,14 +91,74 @@ fn check_marks(bytes: &[u8], base: usize, unmarked: Place) -> Place
     }
 }
 
-// The first fault behind the leader.
+// All entries, in one walk: a fault of an entry comes before any mark, so that a missing mark is only noted.
+fn read_entries(bytes: &[u8], base: usize, entries: usize) -> Entries
+    requires { ⌜ Directory (now bytes) base entries ⌝ }
+    ensures { λ r. ⌜ EntriesTell (now (bytes .entry)) r ⌝ }
+{
+    let mut unmarked = Place::Nowhere;
+    let mut e: usize = 0;
+    while e < entries {
+        match read_entry(bytes, base, e) {
+            Entry::Bad(place) => {
+                return Entries::Bad(place);
+            }
+            Entry::Ends(end) => {
+                unmarked = first_unmarked(unmarked, bytes, end - 1);
+            }
+        }
+        e += 1;
+    }
+    Entries::Fine(unmarked)
+}
+
+// Whether the base address is in order.
+fn fine_base(bytes: &[u8]) -> bool
+    requires { ⌜ 26 ≤ length (now bytes) ⌝ }
+    ensures { λ r. ⌜ badBase (now (bytes .entry)) ≡ not r ⌝ }
+{
+    if !digits(bytes, BASE_ADDRESS, 5) {
+        return false;
+    }
+    let base = five(bytes, BASE_ADDRESS);
+    if base < FIRST_BASE {
+        return false;
+    }
+    if (base - FIRST_BASE) % ENTRY != 0 {
+        return false;
+    }
+    base < bytes.len()
+}
+
+// The first mark that is missing: the directory's, a field's, the record's.
+fn check_marks(bytes: &[u8], base: usize, unmarked: Place) -> Place
+    requires { ⌜ (base ≡ baseAddress (now bytes)) × (0 < base) × (base < length (now bytes)) × EntriesTell (now bytes) (Fine unmarked) ⌝ }
+    ensures { λ r. ⌜ foundAt r ≡ first (fieldRows (now (bytes .entry))) ⌝ }
+{
+    if bytes[base - 1] != FIELD_MARK {
+        return Place::At(base - 1);
+    }
+    match unmarked {
+        Place::At(place) => {
+            return Place::At(place);
+        }
+        Place::Nowhere => {}
+    }
+    let last = bytes.len() - 1;
+    if bytes[last] != RECORD_MARK {
+        return Place::At(last);
+    }
+    Place::Nowhere
+}
+
+// The first fault of the entries or the marks.
 fn check_fields(bytes: &[u8], base: usize, entries: usize) -> Place
     requires { ⌜ Directory (now bytes) base entries ⌝ }
     ensures { λ r. ⌜ foundAt r ≡ first (fieldRows (now (bytes .entry))) ⌝ }
 {
     match read_entries(bytes, base, entries) {
-        Entries::Fault(place) => Place::At(place),
-        Entries::Read(unmarked) => check_marks(bytes, base, unmarked),
+        Entries::Bad(place) => Place::At(place),
+        Entries::Fine(unmarked) => check_marks(bytes, base, unmarked),
     }
 }
 
@@ -146,7 +167,7 @@ pub fn check_frame(bytes: &[u8]) -> Place
     ensures { λ r. ⌜ foundAt r ≡ first (frameRows (now (bytes .entry))) ⌝ }
 {
     let n = bytes.len();
-    if n < 26 {
+    if n < SHORTEST {
         return Place::At(0);
     }
     if !digits(bytes, 0, 5) {
@@ -156,8 +177,8 @@ pub fn check_frame(bytes: &[u8]) -> Place
         return Place::At(0);
     }
     if !fine_base(bytes) {
-        return Place::At(12);
+        return Place::At(BASE_ADDRESS);
     }
-    let base = five(bytes, 12);
-    check_fields(bytes, base, (base - 25) / 12)
+    let base = five(bytes, BASE_ADDRESS);
+    check_fields(bytes, base, (base - FIRST_BASE) / ENTRY)
 }

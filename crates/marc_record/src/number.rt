@@ -8,7 +8,7 @@ ghost use Rattle.marc.specs.Frame.{isDigit, digitsAt, decimalAt};
 pub fn is_digit(byte: u8) -> bool
     ensures { λ r. ⌜ r ≡ isDigit byte ⌝ }
 {
-    byte >= 48 && byte <= 57
+    byte >= b'0' && byte <= b'9'
 }
 
 // Whether the n bytes from `at` on are digits.
@@ -26,14 +26,12 @@ pub fn digits(bytes: &[u8], at: usize, n: usize) -> bool
     true
 }
 
-// What a digit stands for. (Any other byte gives some number too, so that this can be asked of any.)
+// What a digit stands for.
 pub fn digit(byte: u8) -> usize
-    ensures { λ r. ⌜ (r ≡ byte - 48) × (r ≤ 207) ⌝ }
+    requires { ⌜ isDigit byte ≡ true ⌝ }
+    ensures { λ r. ⌜ (r ≡ byte - 48) × (r ≤ 9) ⌝ }
 {
-    if byte < 48 {
-        return 0;
-    }
-    (byte - 48) as usize
+    (byte - b'0') as usize
 }
 
 fn wide(byte: u8) -> usize
@@ -42,7 +40,10 @@ fn wide(byte: u8) -> usize
     byte as usize
 }
 
-// The number that four digits write. Each byte is 48 more than its digit stands for, which is taken off at the end, once for all.
+// The digit 0; the others follow it.
+const ZERO: usize = 48;
+
+// The number that four digits write. Each byte is ZERO more than its digit stands for, which is taken off at the end, once for all.
 pub fn four(bytes: &[u8], at: usize) -> usize
     requires { ⌜ (at + 4 ≤ length (now bytes)) × (digitsAt (now bytes) at 4 ≡ true) ⌝ }
     ensures { λ r. ⌜ (r ≡ decimalAt (now (bytes .entry)) at 4) × (r ≤ 9999) ⌝ }
@@ -51,7 +52,7 @@ pub fn four(bytes: &[u8], at: usize) -> usize
     let b = wide(bytes[at + 1]);
     let c = wide(bytes[at + 2]);
     let d = wide(bytes[at + 3]);
-    ((a * 10 + b) * 10 + c) * 10 + d - 48 * 1111
+    ((a * 10 + b) * 10 + c) * 10 + d - ZERO * 1111
 }
 
 // The number that five digits write.
@@ -64,5 +65,5 @@ pub fn five(bytes: &[u8], at: usize) -> usize
     let c = wide(bytes[at + 2]);
     let d = wide(bytes[at + 3]);
     let e = wide(bytes[at + 4]);
-    (((a * 10 + b) * 10 + c) * 10 + d) * 10 + e - 48 * 11111
+    (((a * 10 + b) * 10 + c) * 10 + d) * 10 + e - ZERO * 11111
 }

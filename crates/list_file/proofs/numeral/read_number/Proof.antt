@@ -65,7 +65,7 @@ mul-value : tie.Need-mul-value Inv-loop μ-loop
 mul-value c = search needs
 
 digit-requires : tie.Need-digit-requires Inv-loop μ-loop
-digit-requires c κs = search needs
+digit-requires c κs = digit (c .before)
 
 add-value : tie.Need-add-value Inv-loop μ-loop
 add-value c = search needs

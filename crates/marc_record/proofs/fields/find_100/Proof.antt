@@ -8,8 +8,8 @@ use denote.Ref.{now}
 use lib.ListN.{length, take, drop}
 use Rattle.marc.specs.Frame.{baseAddress, entryCount, entryAt, fieldLength, fieldAt, fieldsFrom, fieldsIn}
 use Rattle.marc.specs.Heading.{tag100, firstWith, field100}
-use Rattle.marc.specs.Reading.{FieldStands}
 use Rattle.marc.proofs.Frames.{framed}
+use Rattle.marc_record.proofs.Places.{base-digits, entry-digits}
 use Rattle.marc_record.proofs.Tags.{tag-here, tag-next, tag-none}
 use Rattle.marc_record.proofs.fields.find_100.Statement.{statement}
 use Rattle.marc_record.proofs.fields.find_100.Tie as tie
@@ -21,7 +21,7 @@ abbrev μ-loop : tie.MeasureT-loop
 μ-loop bytes base entries e₀ e = entries - e
 
 five-requires : tie.Need-five-requires Inv-loop μ-loop
-five-requires c κs = let f = framed _ (c .before .pre) in (omega (arith, f .base-inside, f .directory-fits), f .base-digits)
+five-requires c κs = let f = framed _ (c .before .pre) in (omega (arith, f .base-inside, f .directory-fits), base-digits _ (c .before .pre))
 
 sub-entries : tie.Need-sub-entries Inv-loop μ-loop
 sub-entries c = let f = framed _ (c .before .before .pre) in omega (arith, c .five .ensures .0, f .directory-fits)
@@ -34,13 +34,6 @@ loop-holds c =
     let f = framed r (c .before .before .pre) in
     let z : (c .five .result - 25) / 12 - 0 ≡ entryCount r = omega (arith, n) in
     (c .five .ensures .0, n, omega arith, omega (arith, n, c .five .ensures .0, f .base-inside, f .directory-fits), ap (λ m. firstWith tag100 (fieldsFrom r 0 m)) z)
-
--- the entry's numbers are digits, and its field is not empty
-stands : (c : tie.Then1 Inv-loop μ-loop) → FieldStands (now (c .before .before .before .before .before .before .args .bytes)) (c .before .before .before .loop .e)
-stands c =
-    let start = c .before .before .before .before .before .before in
-    let head = c .before .before .before .loop in
-    framed (now (start .args .bytes)) (start .pre) .each (head .e) (omega (arith, head .inv .1))
 
 mul-at : tie.Need-mul-at Inv-loop μ-loop
 mul-at c = search needs
@@ -55,7 +48,10 @@ add-five : tie.Need-add-five Inv-loop μ-loop
 add-five c = search needs
 
 five-requires-2 : tie.Need-five-requires-2 Inv-loop μ-loop
-five-requires-2 c κs = (omega arith, stands c .start-digits)
+five-requires-2 c κs =
+    let start = c .before .before .before .before .before .before in
+    let head = c .before .before .before .loop in
+    (omega arith, entry-digits (now (start .args .bytes)) (start .pre) (head .e) (omega (arith, head .inv .1)) .1)
 
 add-start : tie.Need-add-start Inv-loop μ-loop
 add-start c = search needs
@@ -64,10 +60,17 @@ add-four : tie.Need-add-four Inv-loop μ-loop
 add-four c = search needs
 
 four-requires : tie.Need-four-requires Inv-loop μ-loop
-four-requires c κs = (omega arith, stands (c .before) .length-digits)
+four-requires c κs =
+    let start = c .before .before .before .before .before .before .before in
+    let head = c .before .before .before .before .loop in
+    (omega arith, entry-digits (now (start .args .bytes)) (start .pre) (head .e) (omega (arith, head .inv .1)) .0)
 
 sub-t13 : tie.Need-sub-t13 Inv-loop μ-loop
-sub-t13 c = omega (arith, c .four .ensures .0, stands (c .before .before) .not-empty)
+sub-t13 c =
+    let start = c .before .before .before .before .before .before .before .before in
+    let head = c .before .before .before .before .before .loop in
+    let f = framed (now (start .args .bytes)) (start .pre) .each (head .e) (omega (arith, head .inv .1)) in
+    omega (arith, c .four .ensures .0, f .not-empty)
 
 add-t14 : tie.Need-add-t14 Inv-loop μ-loop
 add-t14 c = search needs

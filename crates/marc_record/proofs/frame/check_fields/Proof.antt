@@ -1,17 +1,12 @@
--- The entries' rows, and behind them those of the marks.
-use borrow.Author.Needs.{needs}
-use mathlib.Core.Path.{_≡_, subst, _∙_}
+-- The entries decide first, then the marks.
+use mathlib.Core.Path.{subst}
 use native.Mathlib.Omega.{arith}
 use denote.Ref.{now}
-use Rattle.marc_record.specs.Frames.{EntriesAre}
-use Rattle.marc_record.specs.declared.frame.Entries.the-variants.{Read}
-use Rattle.marc_record.proofs.Rows.{at-entry, behind-entries}
+use Rattle.marc_record.specs.Frames.{EntriesTell}
+use Rattle.marc_record.proofs.Rows.{at-entry}
+use borrow.Author.Needs.{needs}
 use Rattle.marc_record.proofs.frame.check_fields.Statement.{statement}
 use Rattle.marc_record.proofs.frame.check_fields.Tie as tie
-
--- no entry is at fault
-all-read : (c : tie.After-known-told2) → EntriesAre (now (c .before .before .before .before .before .args .bytes)) (Read (c .before .unmarked .given .0 .0))
-all-read c = subst (EntriesAre (now (c .before .before .before .before .before .args .bytes))) (c .before .unmarked .given .1) (c .before .before .before .read-entries .ensures)
 
 read-entries-requires : tie.Need-read-entries-requires
 read-entries-requires c κs = search needs
@@ -24,14 +19,17 @@ enum-known-unmarked c = search needs
 
 check-marks-requires : tie.Need-check-marks-requires
 check-marks-requires c κs =
-    let d = c .before .before .before .before .before .pre in
-    (d .base-is, omega (arith, d .size), omega (arith, d .inside), all-read c .1)
+    let start = c .before .before .before .before .before in
+    let d = start .pre in
+    (d .base-is, omega (arith, d .size), d .inside, subst (EntriesTell (now (start .args .bytes))) (c .before .unmarked .given .1) (c .before .before .before .read-entries .ensures))
 
 returns : tie.Need-returns
-returns c = at-entry (now (c .before .before .before .before .before .args .bytes)) _ (subst (EntriesAre (now (c .before .before .before .before .before .args .bytes))) (c .before .place .given .1) (c .before .before .before .read-entries .ensures))
+returns c =
+    let r = now (c .before .before .before .before .before .args .bytes) in
+    at-entry r _ (subst (EntriesTell r) (c .before .place .given .1) (c .before .before .before .read-entries .ensures))
 
 returns-2 : tie.Need-returns-2
-returns-2 c = c .check-marks .ensures ∙ behind-entries (now (c .before .before .before .before .before .before .args .bytes)) (all-read (c .before) .0)
+returns-2 c = search needs
 
 pub check-fields-spec : {M : Type 1} → statement M
 check-fields-spec =

@@ -9,7 +9,8 @@ use denote.Ref.{now}
 use lib.ListN.{length}
 use Rattle.marc.specs.Frame.{digitsAt, recordLength, badBase}
 use Rattle.marc_record.specs.Frames.{Directory}
-use Rattle.marc_record.proofs.Rows.{base-digits, directory, too-short, no-length, other-length, at-base, behind-leader}
+use Rattle.marc_record.proofs.Places.{base-number}
+use Rattle.marc_record.proofs.Rows.{directory, too-short, no-length, other-length, at-base, behind-leader}
 use Rattle.marc_record.proofs.frame.check_frame.Statement.{statement}
 use Rattle.marc_record.proofs.frame.check_frame.Tie as tie
 
@@ -21,9 +22,6 @@ size-is : (c : tie.Else3) → let r = now (c .before .before .before .before .be
 size-is c =
     let v = c .before .five .ensures .0 in
     omega arith
-
-base-number : (c : tie.Else4) → digitsAt (now (c .before .before .before .before .before .before .before .before .args .bytes)) 12 5 ≡ true
-base-number c = base-digits (now (c .before .before .before .before .before .before .before .before .args .bytes)) (c .before .fine-base .ensures ∙ c .if4 .left)
 
 base-fine : (c : tie.After-five2) → Directory (now (c .before .before .before .before .before .before .before .before .before .args .bytes)) (c .five2 .result) ((c .five2 .result - 25) / 12)
 base-fine c = directory (now (c .before .before .before .before .before .before .before .before .before .args .bytes)) (c .five2 .result) (c .five2 .ensures .0) (c .five2 .ensures .1) (c .before .before .fine-base .ensures ∙ c .before .if4 .left)
@@ -53,7 +51,7 @@ returns-4 c =
     at-base (now (c .before .before .before .before .before .before .before .before .args .bytes)) (omega arith) (is-number (c .before .before .before .before)) (size-is (c .before .before)) (c .before .fine-base .ensures ∙ c .if4 .taken)
 
 five-requires-2 : tie.Need-five-requires-2
-five-requires-2 c κs = (omega arith, base-number c)
+five-requires-2 c κs = (omega arith, base-number (now (c .before .before .before .before .before .before .before .before .args .bytes)) (c .before .fine-base .ensures ∙ c .if4 .left))
 
 sub-check-fields : tie.Need-sub-check-fields
 sub-check-fields c =

@@ -1,25 +1,34 @@
--- The loop keeps that no entry passed has a fault, and the first field passed that lacks its mark.
+-- The loop keeps that no entry passed has a fault, and the first field passed that does not end with its mark.
 use borrow.Author.Needs.{needs}
 use mathlib.Core.Path.{_≡_, refl, sym, ap, ap₂, subst, _∙_}
 use mathlib.Core.Option.{none, some as just}
-use Prim.Native.Nat.{_≤_, _<_, _-_}
+use Prim.Native.Nat.{_+_, _-_, _≤_, _<_}
+use native.Mathlib.Numerals.{add-one}
 use native.Mathlib.Omega.{arith}
 use denote.Ref.{now}
+use lib.ListN.{length}
 use Rattle.theory.specs.Least.{orElse}
-use Rattle.marc.specs.Frame.{entryCount, entryFault, fieldEnd, fieldMark, unmarked as without, firstPlace}
+use Rattle.marc.specs.Frame.{entryCount, entryFault, fieldEnd, fieldMark, unmarked as noMark, firstPlace}
 use Rattle.table.specs.Places.{placeIn}
-use Rattle.marc_record.specs.Frames.{EntryIs}
-use Rattle.marc_record.specs.declared.frame.Entry.the-variants.{Last}
-use Rattle.marc_record.proofs.Places.{place-more, place-on, place-at}
+use Rattle.marc_record.specs.Frames.{unended, EntryTells}
+use Rattle.marc_record.specs.declared.frame.Entry.the-variants.{Ends}
+use Rattle.marc_record.proofs.Places.{place-on, place-at}
 use Rattle.marc_record.proofs.frame.read_entries.Statement.{statement}
 use Rattle.marc_record.proofs.frame.read_entries.Tie as tie
 
 abbrev Inv-loop : tie.InvT-loop
-Inv-loop bytes base entries unmarked₀ e₀ unmarked e =
-    (e ≤ entries) × (firstPlace e (entryFault bytes) ≡ none) × (placeIn unmarked ≡ firstPlace e (λ k. without bytes (fieldEnd bytes k - 1) fieldMark))
+Inv-loop bytes base entries unmarked₀ e₀ unmarked e = (e ≤ entries) × (firstPlace e (entryFault bytes) ≡ none) × (placeIn unmarked ≡ firstPlace e (unended bytes))
 
 abbrev μ-loop : tie.MeasureT-loop
 μ-loop bytes base entries unmarked₀ e₀ unmarked e = entries - e
+
+-- what the entry tells of its field
+tells : (c : tie.After-known-told2 Inv-loop μ-loop)
+    → let r = now (c .before .before .before .before .before .before .before .args .bytes) in
+    EntryTells r (c .before .before .before .before .before .loop .e) (Ends (c .before .end .given .0 .0))
+tells c =
+    let r = now (c .before .before .before .before .before .before .before .args .bytes) in
+    subst (EntryTells r (c .before .before .before .before .before .loop .e)) (c .before .end .given .1) (c .before .before .before .read-entry .ensures)
 
 loop-holds : tie.Need-loop-holds Inv-loop μ-loop
 loop-holds c = (omega arith, refl, refl)
@@ -36,18 +45,17 @@ returns c =
     let d = c .before .before .before .before .before .before .before .pre in
     let head = c .before .before .before .before .before .loop in
     let r = now (a .bytes) in
-    let fault = subst (EntryIs r (head .e)) (c .before .place .given .1) (c .before .before .before .read-entry .ensures) in
+    let fault = subst (EntryTells r (head .e)) (c .before .place .given .1) (c .before .before .before .read-entry .ensures) in
     place-at (entryFault r) (head .e) (entryCount r) _ (head .inv .1) fault (omega (arith, d .entries-are))
 
--- the entry is in order, and its field's last byte is inside
-last-of : (c : tie.After-known-told2 Inv-loop μ-loop) → let r = now (c .before .before .before .before .before .before .before .args .bytes) in EntryIs r (c .before .before .before .before .before .loop .e) (Last (c .before .last .given .0 .0))
-last-of c = subst (EntryIs (now (c .before .before .before .before .before .before .before .args .bytes)) (c .before .before .before .before .before .loop .e)) (c .before .last .given .1) (c .before .before .before .read-entry .ensures)
+enum-known-end : tie.Need-enum-known-end Inv-loop μ-loop
+enum-known-end c = search needs
 
-enum-known-last : tie.Need-enum-known-last Inv-loop μ-loop
-enum-known-last c = search needs
+sub-first-unmarked : tie.Need-sub-first-unmarked Inv-loop μ-loop
+sub-first-unmarked c = omega (arith, tells c .2)
 
-unmarked-at-requires : tie.Need-unmarked-at-requires Inv-loop μ-loop
-unmarked-at-requires c κs = last-of c .2
+first-unmarked-requires : tie.Need-first-unmarked-requires Inv-loop μ-loop
+first-unmarked-requires c κs = omega (arith, tells c .3)
 
 add-e : tie.Need-add-e Inv-loop μ-loop
 add-e c = search needs
@@ -60,24 +68,18 @@ loop-again c =
     let a = c .before .before .before .before .before .before .before .before .args in
     let head = c .before .before .before .before .before .before .loop in
     let r = now (a .bytes) in
-    let last = last-of (c .before) in (
-      omega arith,
-      place-on (entryFault r) (head .e) (head .inv .1) (last .0),
-      c .unmarked-at .ensures
-          ∙ ap₂ (λ f k. orElse f (without r k fieldMark)) (head .inv .2) (last .1)
-          ∙ sym (place-more (λ k. without r (fieldEnd r k - 1) fieldMark) (head .e)),
-    )
+    let field = tells (c .before) in
+    let last : c .before .before .end .given .0 .0 - 1 ≡ fieldEnd r (head .e) - 1 = omega (arith, field .1) in
+    let marks = c .first-unmarked .ensures ∙ ap₂ orElse (head .inv .2) (ap (λ k. noMark r k fieldMark) last) in
+    (omega arith, place-on (entryFault r) (head .e) (head .inv .1) (field .0), marks ∙ ap (λ n. firstPlace n (unended r)) (sym (add-one (head .e))))
 
 returns-2 : tie.Need-returns-2 Inv-loop μ-loop
 returns-2 c =
-    let a = c .before .before .before .args in
+    let r = now (c .before .before .before .args .bytes) in
     let d = c .before .before .before .pre in
     let head = c .before .loop in
-    let r = now (a .bytes) in
-    let n : head .e ≡ entryCount r = omega (arith, d .entries-are) in (
-      ap (λ n. firstPlace n (entryFault r)) (sym n) ∙ head .inv .1,
-      head .inv .2 ∙ ap (λ n. firstPlace n (λ k. without r (fieldEnd r k - 1) fieldMark)) n,
-    )
+    let n : entryCount r ≡ head .e = omega (arith, d .entries-are) in
+    (ap (λ n. firstPlace n (entryFault r)) n ∙ head .inv .1, head .inv .2 ∙ ap (λ n. firstPlace n (unended r)) (sym n))
 
 pub read-entries-spec : {M : Type 1} → statement M
 read-entries-spec =
@@ -89,8 +91,9 @@ read-entries-spec =
     read-entry-requires
     enum-known-place
     returns
-    enum-known-last
-    unmarked-at-requires
+    enum-known-end
+    sub-first-unmarked
+    first-unmarked-requires
     add-e
     loop-less
     loop-again

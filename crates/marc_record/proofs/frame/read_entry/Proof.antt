@@ -1,13 +1,14 @@
--- Each early return knows one more of the four tests of an entry; the last knows all, and with them where the field ends.
+-- Each early return knows one more of the four tests of an entry.
 use borrow.Author.Needs.{needs}
 use borrow.Author.Tests.{not-true, not-false, lt-ltb, le-ltb, eq-eqb, ne-eqb}
 use mathlib.Core.Path.{_≡_, sym, ap, _∙_}
 use mathlib.Core.Bool.{true, false}
+use mathlib.Core.Option.{none}
 use Prim.Native.Nat.{_+_}
 use native.Mathlib.Omega.{arith}
 use denote.Ref.{now}
 use lib.ListN.{length}
-use Rattle.marc.specs.Frame.{digitsAt, entryAt, fieldLength, fieldEnd}
+use Rattle.marc.specs.Frame.{digitsAt, entryAt, fieldLength, fieldEnd, entryFault}
 use Rattle.marc_record.proofs.frame.read_entry.Statement.{statement}
 use Rattle.marc_record.proofs.frame.read_entry.Tie as tie
 
@@ -90,30 +91,16 @@ returns-4 c =
     let a = c .before .before .before .before .before .before .before .before .before .args in
     let v = c .before .before .before .before .before .four .ensures .0 in
     let w = c .before .five .ensures .0 in
-    rw (
-      length-number (c .before .before .before .before .before .before),
-      ne-eqb (fieldLength (now (a .bytes)) (a .e)) 0 (λ e. omega arith),
-      start-number (c .before .before),
-      le-ltb (fieldEnd (now (a .bytes)) (a .e)) (length (now (a .bytes))) (omega arith),
-    )
-
-sub-t13 : tie.Need-sub-t13
-sub-t13 c = search needs
+    rw (length-number (c .before .before .before .before .before .before), ne-eqb (fieldLength (now (a .bytes)) (a .e)) 0 (λ e. omega arith), start-number (c .before .before), le-ltb (fieldEnd (now (a .bytes)) (a .e)) (length (now (a .bytes))) (omega arith))
 
 returns-5 : tie.Need-returns-5
 returns-5 c =
     let a = c .before .before .before .before .before .before .before .before .before .args in
     let v = c .before .before .before .before .before .four .ensures .0 in
-    let w = c .before .five .ensures .0 in (
-      rw (
-        length-number (c .before .before .before .before .before .before),
-        ne-eqb (fieldLength (now (a .bytes)) (a .e)) 0 (λ e. omega arith),
-        start-number (c .before .before),
-        lt-ltb (fieldEnd (now (a .bytes)) (a .e)) (length (now (a .bytes))) (omega arith),
-      ),
-      omega arith,
-      omega arith,
-    )
+    let w = c .before .five .ensures .0 in
+    let fine : entryFault (now (a .bytes)) (a .e) ≡ none =
+    rw (length-number (c .before .before .before .before .before .before), ne-eqb (fieldLength (now (a .bytes)) (a .e)) 0 (λ e. omega arith), start-number (c .before .before), lt-ltb (fieldEnd (now (a .bytes)) (a .e)) (length (now (a .bytes))) (omega arith)) in
+    (fine, omega arith, omega arith, omega arith)
 
 pub read-entry-spec : {M : Type 1} → statement M
 read-entry-spec =
@@ -139,5 +126,4 @@ read-entry-spec =
     add-end-2
     add-t15
     returns-4
-    sub-t13
     returns-5)
