@@ -59,7 +59,8 @@
  * - Every pointer is aligned as its C type asks.
  * - What a call may write (all that is not const) overlaps nothing else that is lent to that call. Lists that are only read may overlap.
  * - Nothing else writes to what is lent while the call runs.
- * - The thread's stack has room: 56 KB for shx_match, 10 KB for shx_heading_degree, shx_subterm and shx_nearer, 1 KB for any other call.
+ * - The thread's stack has room: 56 KB for shx_match, 10 KB for shx_heading_degree, shx_subterm and shx_nearer, 17 KB for
+ *   shx_marc_heading with a list that does not rise, 1 KB for any other call.
  *
  * Beyond that nothing is asked: every table, list and number is accepted or refused as above. The calls keep nothing, allocate nothing and can run
  * in several threads at once. What each does for every input is proved (crates/capi/specs); that a C caller keeps the list above is not.
@@ -188,8 +189,9 @@ uint32_t shx_widen(const uint64_t *words, size_t words_len, uint64_t *out, size_
  * nodes as a heading.
  *
  * The time grows with the record's bytes, and with the list, which every call tests. Best are strings that rise (byte by byte; one that ends first
- * stands first): then the test is one walk over the list, and a text is sought by halving. In any other order the test grows with the square of the
- * number of strings, and a text is sought by one walk.
+ * stands first): then the test is one walk over the list, and a text is sought by halving. In any other order a text is sought by one walk, and in the
+ * test a string is held against those before it where one of them has the same digest, one of 16,384: with many thousands of strings, or with ones that
+ * are chosen for it, the test grows with the square of their number.
  */
 uint64_t shx_marc_heading(
     const uint8_t *record, size_t record_len, const uint8_t *text, size_t text_len, const uint32_t *ends, size_t ends_len, const uint16_t *numbers,
