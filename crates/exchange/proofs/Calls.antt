@@ -1,16 +1,14 @@
 -- The call's answer and its output, by what was found.
-use mathlib.Core.Path.{_≡_, refl, sym as inv, ap, _∙_}
+use mathlib.Core.Path.{_≡_, refl, _∙_}
 use mathlib.Core.List.{List, [], _∷_, _++_}
-use mathlib.Core.Option.{none, some as just, Option·some-ne-none}
-use Prim.Native.Nat.{ℕ, suc, _≤_, _<_}
+use mathlib.Core.Option.{none, some as just}
+use Prim.Native.Nat.{ℕ, _≤_, _<_}
 use native.Mathlib.Omega.{arith}
 use borrow.Author.Tests.{lt-ltb, le-ltb}
 use lib.ListN.{length, set, drop}
-use Rattle.meaning.specs.Refusals.{Refusal, refusal, Row, row, rowPlace, first, row8-output}
-use Rattle.meaning.specs.Calls.{Answer, unless}
+use Rattle.meaning.specs.Refusals.{refusal, row, first, row8-output}
 use Rattle.marc.specs.Known.{Known, knownIn, row19}
-use Rattle.marc.specs.Frame.{frameRows}
-use Rattle.marc.specs.Heading.{nameIn, datesIn, nodeOf, row20, row21, row22, headingRows, headingOf, headed, laterNodes}
+use Rattle.marc.specs.Heading.{headingRows, headingOf, headed, laterNodes}
 use Rattle.known_strings.specs.Checks.{MayHalve, CheckedAs}
 use Rattle.known_strings.specs.declared.check.Checked.{Checked}
 use Rattle.known_strings.specs.declared.check.Checked.the-variants.{Bad, Rising, Unordered}
@@ -18,7 +16,6 @@ use Rattle.exchange.specs.Said.{told}
 use Rattle.exchange.specs.Looking.{recordRows, RecordLooks}
 use Rattle.exchange.specs.Heading.{ReadHeading}
 use Rattle.exchange.specs.declared.Fault.{Fault}
-use Rattle.exchange.specs.declared.Fault.the-variants.{List as ListFault, Room}
 use Rattle.exchange.specs.declared.Headed.the-variants.{Written, Refused}
 use Rattle.exchange.specs.declared.Looked.the-variants.{Nodes}
 

@@ -1,16 +1,16 @@
 -- What the rows of a field and of a record say, by what was found in it.
-use mathlib.Core.Path.{_≡_, refl, sym as inv, ap, _∙_}
+use mathlib.Core.Path.{_≡_, sym as inv, ap, _∙_}
 use mathlib.Core.List.{List, [], _∷_}
 use mathlib.Core.Option.{none, some as just}
 use Prim.Native.Nat.{ℕ}
-use Rattle.meaning.specs.Refusals.{Refusal, refusal, first}
+use Rattle.meaning.specs.Refusals.{refusal, first}
 use Rattle.meaning.proofs.First.{first-append}
 use Rattle.meaning.proofs.Compose.{first-stays}
 use Rattle.marc.specs.Frame.{frameRows}
 use Rattle.marc.specs.Subfields.{subfield}
 use Rattle.marc.specs.Known.{Known, numberIn}
 use Rattle.marc.specs.Heading.{codeA, codeD, field100, nameIn, datesIn, nodeOf, row20, row21, row22}
-use Rattle.exchange.specs.Looking.{Looks, nameRows, recordRows, FieldLooks, RecordLooks}
+use Rattle.exchange.specs.Looking.{nameRows, recordRows, FieldLooks, RecordLooks}
 use Rattle.exchange.specs.declared.Looked.{Looked}
 use Rattle.exchange.specs.declared.Looked.the-variants.{Nodes, Refused}
 

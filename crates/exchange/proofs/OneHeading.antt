@@ -1,15 +1,14 @@
 -- The promise allows one answer and one later output, and it is the meaning's: refused exactly by the rows, and otherwise three nodes.
-use mathlib.Core.Path.{_≡_, refl, sym, ap, subst, _∙_}
+use mathlib.Core.Path.{_≡_, refl, sym, ap, _∙_}
 use mathlib.Core.List.{List as Seq}
 use mathlib.Core.Bool.{cond}
 use Prim.Native.Nat.{ℕ}
 use lib.Dec.{eqb}
-use Rattle.meaning.specs.Calls.{Answer, refused, gives, refusedAs, Yes, aye}
+use Rattle.meaning.specs.Calls.{Answer, refused, gives, Yes}
 use Rattle.marc.specs.Known.{knownIn}
-use Rattle.marc.specs.Heading.{headed, laterNodes}
 use Rattle.marc.specs.Reading.{HeadsCall}
 use Rattle.marc.proofs.Headings.{heads-call}
-use Rattle.exchange.specs.Said.{told, said}
+use Rattle.exchange.specs.Said.{said}
 use Rattle.exchange.specs.Heading.{ReadHeading}
 use Rattle.exchange.specs.declared.Fault.{Fault}
 use Rattle.exchange.specs.declared.Fault.the-variants.{List, Room, Frame, NoField, NoName, UnlistedName, UnlistedDates}

@@ -2,22 +2,17 @@
 use mathlib.Core.Path.{_≡_, refl, sym as inv, ap, ap₂, _∙_}
 use mathlib.Core.List.{List, [], _∷_}
 use mathlib.Core.Bool.{Bool, true, false, _&&_}
-use Prim.Native.Nat.{ℕ, suc, _+_, _-_, _≤_, _<_}
-use native.Mathlib.Numerals.{add-one}
+use Prim.Native.Nat.{ℕ, suc, _+_, _≤_, _<_}
 use native.Mathlib.Omega.{arith}
 use borrow.Author.Tests.{lt-ltb, le-ltb, eq-eqb, ne-eqb}
 use lib.Dec.{eqb}
 use lib.ListN.{length, getD, drop, drop-of-length-le}
-use lib.Seq.{drop-cons}
 use Rattle.marc.specs.Known.{same}
 use Rattle.marc.specs.Order.{before}
+use Rattle.marc.proofs.Strings.{left-is}
 use Rattle.known_strings.specs.Compared.{ComparedAs}
 use Rattle.known_strings.specs.declared.compare.Order.{Order}
 use Rattle.known_strings.specs.declared.compare.Order.the-variants.{Before, Same, After}
-
--- LAW: what is left begins with the byte there
-pub left-is : (xs : List ℕ) (k : ℕ) → k < length xs → drop k xs ≡ getD xs k 0 ∷ drop (k + 1) xs
-left-is xs k l = drop-cons xs k 0 l ∙ ap (λ i. getD xs k 0 ∷ drop i xs) (inv (add-one k))
 
 -- LAW: strings of unlike lengths are not the same
 pub unlike : (xs ys : List ℕ) → (length xs ≡ length ys → ⊥) → false ≡ same xs ys

@@ -1,5 +1,5 @@
 -- The list as it is lent, entry by entry.
-use mathlib.Core.Path.{_≡_, refl, sym as inv, ap, ap₂, _∙_}
+use mathlib.Core.Path.{_≡_, refl, sym as inv, ap, _∙_}
 use mathlib.Core.List.{List, [], _∷_}
 use Prim.Native.Nat.{ℕ, zero, suc, _+_, _-_, _≤_, _<_}
 use native.Mathlib.Numerals.{add-one}

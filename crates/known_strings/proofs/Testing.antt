@@ -11,13 +11,11 @@ use lib.ListN.{length, getD, set, drop, drop-of-length-le}
 use lib.Seq.{getD-set-same, getD-set-other}
 use Rattle.theory.specs.Least.{some, leastBelow}
 use Rattle.meaning.specs.Refusals.{row}
-use Rattle.marc.specs.Known.{same, stringOf, numberOf, entryOf, knownIn, listedBefore, badEntry, row19}
+use Rattle.marc.specs.Known.{same, stringOf, numberOf, entryOf, knownIn, badEntry, row19}
 use Rattle.marc.specs.Order.{before}
-use Rattle.marc.proofs.Strings.{none-of}
-use Rattle.marc.proofs.Order.{none-twice}
-use Rattle.marc.proofs.Strings.{same-true}
+use Rattle.marc.proofs.Order.{none-of, none-twice}
+use Rattle.marc.proofs.Strings.{left-is, same-true}
 use Rattle.known_strings.specs.Lent.{stringIn, RisesTo, listedAbove, badIn, digestFrom, digestOf}
-use Rattle.known_strings.proofs.Bytes.{left-is}
 use Rattle.known_strings.proofs.Entries.{in-both, string-is, number-is}
 
 -- ---- tests that say the same of each number below n

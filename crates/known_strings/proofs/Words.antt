@@ -1,5 +1,5 @@
 -- Bytes as digits of a number, the first the highest: the lower of two numbers has the lower byte where they first differ.
-use mathlib.Core.Path.{_≡_, refl, sym as inv, ap, ap₂, subst, _∙_}
+use mathlib.Core.Path.{_≡_, ap, subst}
 use mathlib.Core.List.{List}
 use mathlib.Core.Bool.{true}
 use Prim.Native.Nat.{ℕ, zero, suc, _+_, _*_, _≤_, _<_}

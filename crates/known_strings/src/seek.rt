@@ -1,6 +1,5 @@
 // The number of a string: sought by halving where the strings rise, and by one walk in any other list.
 ghost use mathlib.Core.Path.{_≡_};
-ghost use Prim.Native.Nat.{_≤_};
 ghost use lib.ListN.{length};
 ghost use Rattle.marc.specs.Known.{knownIn, numberIn};
 ghost use Rattle.known_strings.specs.Lent.{soughtIn, RisesTo};

@@ -4,17 +4,23 @@ use mathlib.Core.Path.{_≡_, refl, sym as inv, ap, ap₂, _∙_}
 use mathlib.Core.List.{List, [], _∷_}
 use mathlib.Core.Bool.{Bool, true, false, cond, false≢true}
 use mathlib.Core.Option.{some as just, Option·some-ne-none}
-use Prim.Native.Nat.{ℕ, zero, suc, _<_}
+use Prim.Native.Nat.{ℕ, suc, _+_, _<_}
 use native.Mathlib.Decide.{decLt}
+use native.Mathlib.Numerals.{add-one}
 use native.Mathlib.Omega.{arith}
 use lib.Dec.{eqb}
-use lib.ListN.{length}
+use lib.ListN.{length, getD, drop}
+use lib.Seq.{drop-cons}
 use borrow.Author.Tests.{eqb-true, eqb-false, eq-eqb}
 use Rattle.theory.specs.Least.{some}
 use Rattle.theory.proofs.Lemmas.{and-left, and-right, least-none, some-of, both-false}
 use Rattle.meaning.proofs.First.{Silent}
 use Rattle.marc.specs.Known.{Known, known, stringOf, numberOf, entryOf, same, numberIn, listedBefore, badEntry, row19}
 use Rattle.marc.specs.Reading.{Listed, FineList}
+
+-- LAW: what is left of a string begins with the byte there
+pub left-is : (xs : List ℕ) (k : ℕ) → k < length xs → drop k xs ≡ getD xs k 0 ∷ drop (k + 1) xs
+left-is xs k l = drop-cons xs k 0 l ∙ ap (λ i. getD xs k 0 ∷ drop i xs) (inv (add-one k))
 
 -- LAW: the test says that two strings have the same bytes, and only then
 pub same-true : (xs ys : List ℕ) → same xs ys ≡ true → xs ≡ ys

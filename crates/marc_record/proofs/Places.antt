@@ -1,5 +1,5 @@
 -- The first place, as a loop seeks it; and that what passes the tests is written in digits.
-use mathlib.Core.Path.{_≡_, refl, ap, _∙_}
+use mathlib.Core.Path.{_≡_}
 use mathlib.Core.List.{List}
 use mathlib.Core.Bool.{true, false, _||_, not}
 use mathlib.Core.Option.{Option, none, some as just}

@@ -1,16 +1,16 @@
 -- The rows of the frame, one after the other: each that holds knows that those before it are silent.
-use mathlib.Core.Path.{_≡_, refl, sym as inv, ap, _∙_}
+use mathlib.Core.Path.{_≡_, ap}
 use mathlib.Core.List.{List}
 use mathlib.Core.Bool.{false, true, _||_, not}
-use mathlib.Core.Option.{Option, none, some as just}
-use Prim.Native.Nat.{ℕ, _+_, _*_, _-_, _/_, _%_, _≤_, _<_}
+use mathlib.Core.Option.{none, some as just}
+use Prim.Native.Nat.{ℕ, _-_, _/_, _%_, _≤_, _<_}
 use native.Mathlib.Omega.{arith}
 use borrow.Author.Tests.{lt-ltb, le-ltb, ltb-true, ltb-false, eqb-true, eq-eqb, ne-eqb, not-false}
 use lib.Dec.{eqb, ltb}
 use lib.ListN.{length, getD}
 use Rattle.meaning.specs.Refusals.{refusal, first}
 use Rattle.theory.proofs.Lemmas.{both-false}
-use Rattle.marc.specs.Frame.{digitsAt, recordLength, baseAddress, entryCount, entryFault, fieldEnd, fieldMark, recordMark, unmarked, firstPlace, badBase, frameRows}
+use Rattle.marc.specs.Frame.{digitsAt, recordLength, baseAddress, entryCount, entryFault, fieldMark, recordMark, firstPlace, badBase, frameRows}
 use Rattle.marc_record.specs.Frames.{Directory, unended, fieldRows}
 
 module _ (r : List ℕ) where

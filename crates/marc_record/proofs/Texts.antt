@@ -2,19 +2,16 @@
 use mathlib.Core.Path.{_≡_, refl, sym as inv, ap, _∙_}
 use mathlib.Core.List.{List, [], _∷_, _++_, append-assoc, append-nil}
 use mathlib.Core.Bool.{Bool, true, false, _&&_}
-use mathlib.Core.Option.{Option, none, some as just}
+use mathlib.Core.Option.{none, some as just}
 use Prim.Native.Nat.{ℕ, suc, _+_, _-_, _≤_, _<_}
 use native.Mathlib.Numerals.{add-one}
 use native.Mathlib.Omega.{arith}
 use borrow.Author.Tests.{eq-eqb, ne-eqb}
 use lib.Dec.{eqb}
 use lib.ListN.{length, getD, take, drop, length-drop, drop-of-length-le}
-use lib.Seq.{drop-cons, take-suc, getD-drop}
+use lib.Seq.{take-suc, getD-drop}
+use Rattle.marc.proofs.Strings.{left-is}
 use Rattle.marc.specs.Subfields.{subfieldMark, textTo, hasCode, textOf}
-
--- LAW: what is left begins with the byte there
-pub left-is : (f : List ℕ) (i : ℕ) → i < length f → drop i f ≡ getD f i 0 ∷ drop (i + 1) f
-left-is f i l = drop-cons f i 0 l ∙ ap (λ k. getD f i 0 ∷ drop k f) (inv (add-one i))
 
 -- ---- where a text ends
 

@@ -4,7 +4,7 @@ ghost use mathlib.Core.Option.{none};
 ghost use Prim.Native.Nat.{_+_, _-_, _≤_};
 ghost use lib.ListN.{length, take, drop};
 ghost use Rattle.meaning.specs.Refusals.{first};
-ghost use Rattle.marc.specs.Frame.{entryAt, frameRows};
+ghost use Rattle.marc.specs.Frame.{frameRows};
 ghost use Rattle.marc.specs.Subfields.{textTo, subfield};
 ghost use Rattle.marc.specs.Known.{same};
 ghost use Rattle.marc.specs.Heading.{tag100, field100};
@@ -50,14 +50,14 @@ pub fn find_100(bytes: &[u8]) -> Span
 {
     let base = five(bytes, BASE_ADDRESS);
     let entries = (base - FIRST_BASE) / ENTRY;
-    let mut e: usize = 0;
-    while e < entries {
-        let at = LEADER + ENTRY * e;
+    let mut left = entries;
+    while left > 0 {
+        let at = LEADER + ENTRY * (entries - left);
         if tag_is_100(bytes, at) {
             let start = base + five(bytes, at + FIELD_START);
             return Span::Of(start, start + (four(bytes, at + FIELD_LENGTH) - 1));
         }
-        e += 1;
+        left -= 1;
     }
     Span::Missing
 }

@@ -3,7 +3,7 @@ use borrow.Author.Needs.{needs}
 use mathlib.Core.Path.{subst, _∙_}
 use native.Mathlib.Omega.{arith}
 use denote.Ref.{now}
-use lib.ListN.{length-set}
+use lib.ListN.{set, length-set}
 use Rattle.marc.specs.Known.{knownIn}
 use Rattle.exchange.specs.Looking.{RecordLooks}
 use Rattle.exchange.specs.declared.Fault.the-variants.{Room}
@@ -32,7 +32,10 @@ slice-write-nodes-2 : tie.Need-slice-write-nodes-2
 slice-write-nodes-2 c = let a = c .before .before .before .before .before .before .before .before .before .before .args in omega (arith, length-set (now (a .nodes)) 0 (a .given .heading))
 
 slice-write-nodes-3 : tie.Need-slice-write-nodes-3
-slice-write-nodes-3 c = search needs
+slice-write-nodes-3 c =
+    let a = c .before .before .before .before .before .before .before .before .before .before .args in
+    let one = set (now (a .nodes)) 0 (a .given .heading) in
+    omega (arith, length-set one 1 (c .before .name .given .0 .0), length-set (now (a .nodes)) 0 (a .given .heading))
 
 returns-2 : tie.Need-returns-2
 returns-2 c =

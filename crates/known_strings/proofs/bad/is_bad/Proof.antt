@@ -1,5 +1,5 @@
 -- It was listed before, or its number decides.
-use mathlib.Core.Path.{_≡_, sym, ap, _∙_}
+use mathlib.Core.Path.{sym, ap, _∙_}
 use mathlib.Core.Bool.{_||_}
 use denote.Ref.{now}
 use lib.Dec.{eqb}

@@ -8,7 +8,7 @@ use native.Mathlib.Numerals.{add-one}
 use native.Mathlib.Omega.{arith}
 use denote.Ref.{now}
 use lib.Dec.{eqb}
-use lib.ListN.{length, getD}
+use lib.ListN.{getD}
 use Rattle.theory.specs.Least.{leastBelow}
 use Rattle.meaning.proofs.First.{least-on, least-at}
 use Rattle.known_strings.proofs.check.absent_entry.Statement.{statement}

@@ -1,6 +1,5 @@
 -- Where the strings rise the numbers alone decide; else each entry is tested whole.
 use mathlib.Core.Path.{_≡_, sym, ap, _∙_}
-use mathlib.Core.Bool.{true}
 use native.Mathlib.Omega.{arith}
 use denote.Ref.{now}
 use Rattle.meaning.specs.Refusals.{row}

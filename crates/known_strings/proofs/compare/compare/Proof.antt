@@ -1,6 +1,6 @@
 -- The loop keeps that what is left of both decides: four bytes are the same, or their numbers say which string stands first.
 use borrow.Author.Needs.{needs}
-use mathlib.Core.Path.{_≡_, sym, ap, _∙_}
+use mathlib.Core.Path.{_≡_}
 use Prim.Native.Nat.{_≤_, _<_, _-_, min}
 use native.Mathlib.Omega.{arith}
 use denote.Ref.{now}

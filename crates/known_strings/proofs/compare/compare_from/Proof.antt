@@ -1,6 +1,6 @@
 -- The loop keeps that what is left of both decides, so that the first bytes that differ do, or the end of one.
 use borrow.Author.Needs.{needs}
-use mathlib.Core.Path.{_≡_, refl, sym}
+use mathlib.Core.Path.{_≡_}
 use Prim.Native.Nat.{_≤_, _-_, min}
 use native.Mathlib.Omega.{arith}
 use denote.Ref.{now}

@@ -1,5 +1,4 @@
 -- Two numbers of two bytes.
-use mathlib.Core.Path.{_∙_}
 use native.Mathlib.Omega.{arith}
 use denote.Ref.{now}
 use Rattle.known_strings.proofs.Words.{four-is}

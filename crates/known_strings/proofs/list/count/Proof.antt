@@ -1,5 +1,4 @@
 -- The shorter of the two lists counts.
-use borrow.Author.Needs.{needs}
 use native.Mathlib.Omega.{arith}
 use denote.Ref.{now}
 use Rattle.known_strings.proofs.Entries.{fewer-ends, fewer-numbers}

@@ -1,6 +1,6 @@
 -- Strings below `low` stand before the one that is sought, those from `high` on after it; the strings rise, so a look at one between moves one of the two.
 use borrow.Author.Needs.{needs}
-use mathlib.Core.Path.{_≡_, sym, ap, subst, _∙_}
+use mathlib.Core.Path.{_≡_, subst}
 use Prim.Native.Nat.{_+_, _/_, _-_, _≤_, _<_}
 use native.Mathlib.Omega.{arith}
 use denote.Ref.{now}

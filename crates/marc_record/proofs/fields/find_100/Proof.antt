@@ -1,12 +1,12 @@
 -- The loop keeps that the first 100 field is the first among the entries left.
 use borrow.Author.Needs.{needs}
-use mathlib.Core.Path.{_≡_, refl, sym, ap, ap₂, _∙_}
-use mathlib.Core.Option.{none, some as just}
+use mathlib.Core.Path.{_≡_, sym, ap, ap₂, _∙_}
+use mathlib.Core.Option.{some as just}
 use Prim.Native.Nat.{_+_, _*_, _-_, _/_, _≤_, _<_}
 use native.Mathlib.Omega.{arith}
 use denote.Ref.{now}
 use lib.ListN.{length, take, drop}
-use Rattle.marc.specs.Frame.{baseAddress, entryCount, entryAt, fieldLength, fieldAt, fieldsFrom, fieldsIn}
+use Rattle.marc.specs.Frame.{baseAddress, entryCount, fieldLength, fieldAt, fieldsFrom, fieldsIn}
 use Rattle.marc.specs.Heading.{tag100, firstWith, field100}
 use Rattle.marc.proofs.Frames.{framed}
 use Rattle.marc_record.proofs.Places.{base-digits, entry-digits}
@@ -15,10 +15,15 @@ use Rattle.marc_record.proofs.fields.find_100.Statement.{statement}
 use Rattle.marc_record.proofs.fields.find_100.Tie as tie
 
 abbrev Inv-loop : tie.InvT-loop
-Inv-loop bytes base entries e₀ e = (base ≡ baseAddress bytes) × (entries ≡ entryCount bytes) × (e ≤ entries) × (25 + 12 * entries < length bytes) × (firstWith tag100 (fieldsFrom bytes e (entries - e)) ≡ field100 bytes)
+Inv-loop bytes base entries left₀ left =
+    (base ≡ baseAddress bytes)
+    × (entries ≡ entryCount bytes)
+    × (left ≤ entries)
+    × (25 + 12 * entries < length bytes)
+    × (firstWith tag100 (fieldsFrom bytes (entries - left) left) ≡ field100 bytes)
 
 abbrev μ-loop : tie.MeasureT-loop
-μ-loop bytes base entries e₀ e = entries - e
+μ-loop bytes base entries left₀ left = left
 
 five-requires : tie.Need-five-requires Inv-loop μ-loop
 five-requires c κs = let f = framed _ (c .before .pre) in (omega (arith, f .base-inside, f .directory-fits), base-digits _ (c .before .pre))
@@ -32,8 +37,11 @@ loop-holds c =
     let r = now (c .before .before .args .bytes) in
     let n : (c .five .result - 25) / 12 ≡ entryCount r = ap (λ b. (b - 25) / 12) (c .five .ensures .0) in
     let f = framed r (c .before .before .pre) in
-    let z : (c .five .result - 25) / 12 - 0 ≡ entryCount r = omega (arith, n) in
-    (c .five .ensures .0, n, omega arith, omega (arith, n, c .five .ensures .0, f .base-inside, f .directory-fits), ap (λ m. firstWith tag100 (fieldsFrom r 0 m)) z)
+    let z : (c .five .result - 25) / 12 - (c .five .result - 25) / 12 ≡ 0 = omega arith in
+    (c .five .ensures .0, n, omega arith, omega (arith, n, c .five .ensures .0, f .base-inside, f .directory-fits), ap₂ (λ e m. firstWith tag100 (fieldsFrom r e m)) z n)
+
+sub-at : tie.Need-sub-at Inv-loop μ-loop
+sub-at c = search needs
 
 mul-at : tie.Need-mul-at Inv-loop μ-loop
 mul-at c = search needs
@@ -51,7 +59,8 @@ five-requires-2 : tie.Need-five-requires-2 Inv-loop μ-loop
 five-requires-2 c κs =
     let start = c .before .before .before .before .before .before in
     let head = c .before .before .before .loop in
-    (omega arith, entry-digits (now (start .args .bytes)) (start .pre) (head .e) (omega (arith, head .inv .1)) .1)
+    let e = (c .before .before .before .before .five .result - 25) / 12 - head .left in
+    (omega arith, entry-digits (now (start .args .bytes)) (start .pre) e (omega (arith, head .inv .1)) .1)
 
 add-start : tie.Need-add-start Inv-loop μ-loop
 add-start c = search needs
@@ -63,34 +72,37 @@ four-requires : tie.Need-four-requires Inv-loop μ-loop
 four-requires c κs =
     let start = c .before .before .before .before .before .before .before in
     let head = c .before .before .before .before .loop in
-    (omega arith, entry-digits (now (start .args .bytes)) (start .pre) (head .e) (omega (arith, head .inv .1)) .0)
+    let e = (c .before .before .before .before .before .five .result - 25) / 12 - head .left in
+    (omega arith, entry-digits (now (start .args .bytes)) (start .pre) e (omega (arith, head .inv .1)) .0)
 
-sub-t13 : tie.Need-sub-t13 Inv-loop μ-loop
-sub-t13 c =
+sub-t14 : tie.Need-sub-t14 Inv-loop μ-loop
+sub-t14 c =
     let start = c .before .before .before .before .before .before .before .before in
     let head = c .before .before .before .before .before .loop in
-    let f = framed (now (start .args .bytes)) (start .pre) .each (head .e) (omega (arith, head .inv .1)) in
+    let e = (c .before .before .before .before .before .before .five .result - 25) / 12 - head .left in
+    let f = framed (now (start .args .bytes)) (start .pre) .each e (omega (arith, head .inv .1)) in
     omega (arith, c .four .ensures .0, f .not-empty)
 
-add-t14 : tie.Need-add-t14 Inv-loop μ-loop
-add-t14 c = search needs
+add-t15 : tie.Need-add-t15 Inv-loop μ-loop
+add-t15 c = search needs
 
 returns : tie.Need-returns Inv-loop μ-loop
 returns c =
     let start = c .before .before .before .before .before .before .before .before in
     let head = c .before .before .before .before .before .loop in
     let r = now (start .args .bytes) in
-    let f = framed r (start .pre) .each (head .e) (omega (arith, head .inv .1)) in
     let base = c .before .before .before .before .before .before .five .result in
+    let e = (base - 25) / 12 - head .left in
+    let f = framed r (start .pre) .each e (omega (arith, head .inv .1)) in
     let from = c .before .five2 .result in
     let long = c .four .result in
-    let at : base + from ≡ fieldAt r (head .e) = omega (arith, head .inv .0, c .before .five2 .ensures .0) in
-    let many : base + from + (long - 1) - (base + from) ≡ fieldLength r (head .e) - 1 = omega (arith, c .four .ensures .0) in
-    let here = tag-here r (head .e) ((base - 25) / 12) (omega arith) (sym (c .before .before .before .tag-is-100 .ensures) ∙ c .before .before .if1 .taken) in
+    let at : base + from ≡ fieldAt r e = omega (arith, head .inv .0, c .before .five2 .ensures .0) in
+    let many : base + from + (long - 1) - (base + from) ≡ fieldLength r e - 1 = omega (arith, c .four .ensures .0) in
+    let here = tag-here r e (head .left) (omega arith) (sym (c .before .before .before .tag-is-100 .ensures) ∙ c .before .before .if1 .taken) in
     (ap just (ap₂ (λ n s. take n (drop s r)) many at) ∙ sym here ∙ head .inv .4, (omega arith, omega (arith, at, c .four .ensures .0, f .before-last, f .not-empty)))
 
-add-e : tie.Need-add-e Inv-loop μ-loop
-add-e c = search needs
+sub-left : tie.Need-sub-left Inv-loop μ-loop
+sub-left c = search needs
 
 loop-less : tie.Need-loop-less Inv-loop μ-loop
 loop-less c = search needs
@@ -100,13 +112,16 @@ loop-again c =
     let a = c .before .before .before .before .before .before .args in
     let head = c .before .before .before .loop in
     let i = head .inv in
-    (i .0, i .1, omega arith, i .3, sym (tag-next (now (a .bytes)) (head .e) _ (omega arith) (sym (c .before .tag-is-100 .ensures) ∙ c .if1 .left)) ∙ i .4)
+    let entries = (c .before .before .before .before .five .result - 25) / 12 in
+    let next : entries - (head .left - 1) ≡ entries - head .left + 1 = omega arith in
+    let goes = ap (λ e. firstWith tag100 (fieldsFrom (now (a .bytes)) e (head .left - 1))) next in
+    (i .0, i .1, omega arith, i .3, goes ∙ sym (tag-next (now (a .bytes)) (entries - head .left) (head .left) (omega arith) (sym (c .before .tag-is-100 .ensures) ∙ c .if1 .left)) ∙ i .4)
 
 returns-2 : tie.Need-returns-2 Inv-loop μ-loop
 returns-2 c =
     let a = c .before .before .before .before .args in
     let head = c .before .loop in
-    (sym (tag-none (now (a .bytes)) (head .e) _ (omega arith)) ∙ head .inv .4, tt)
+    (sym (tag-none (now (a .bytes)) _ (head .left) (omega arith)) ∙ head .inv .4, tt)
 
 pub find-100-spec : {M : Type 1} → statement M
 find-100-spec =
@@ -117,6 +132,7 @@ find-100-spec =
     five-requires
     sub-entries
     loop-holds
+    sub-at
     mul-at
     add-at
     tag-is-100-requires
@@ -125,10 +141,10 @@ find-100-spec =
     add-start
     add-four
     four-requires
-    sub-t13
-    add-t14
+    sub-t14
+    add-t15
     returns
-    add-e
+    sub-left
     loop-less
     loop-again
     returns-2)

@@ -1,13 +1,13 @@
 -- The rows of the leader, in their order; then what `check_fields` finds.
 use borrow.Author.Needs.{needs}
 use borrow.Author.Tests.{not-true, not-false}
-use mathlib.Core.Path.{_≡_, sym, ap, _∙_}
-use mathlib.Core.Bool.{true, false, not}
+use mathlib.Core.Path.{_≡_, sym, _∙_}
+use mathlib.Core.Bool.{true}
 use Prim.Native.Nat.{_-_, _/_}
 use native.Mathlib.Omega.{arith}
 use denote.Ref.{now}
 use lib.ListN.{length}
-use Rattle.marc.specs.Frame.{digitsAt, recordLength, badBase}
+use Rattle.marc.specs.Frame.{digitsAt, recordLength}
 use Rattle.marc_record.specs.Frames.{Directory}
 use Rattle.marc_record.proofs.Places.{base-number}
 use Rattle.marc_record.proofs.Rows.{directory, too-short, no-length, other-length, at-base, behind-leader}

@@ -4,7 +4,7 @@ use mathlib.Core.Option.{some as just}
 use Prim.Native.Nat.{_-_}
 use native.Mathlib.Omega.{arith}
 use denote.Ref.{now}
-use lib.ListN.{length, getD}
+use lib.ListN.{getD}
 use Rattle.meaning.specs.Refusals.{refusal}
 use Rattle.marc.specs.Frame.{baseAddress, fieldMark}
 use Rattle.table.specs.Places.{placeIn}

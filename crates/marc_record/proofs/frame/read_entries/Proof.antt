@@ -1,12 +1,11 @@
 -- The loop keeps that no entry passed has a fault, and the first field passed that does not end with its mark.
 use borrow.Author.Needs.{needs}
 use mathlib.Core.Path.{_≡_, refl, sym, ap, ap₂, subst, _∙_}
-use mathlib.Core.Option.{none, some as just}
-use Prim.Native.Nat.{_+_, _-_, _≤_, _<_}
+use mathlib.Core.Option.{none}
+use Prim.Native.Nat.{_-_, _≤_}
 use native.Mathlib.Numerals.{add-one}
 use native.Mathlib.Omega.{arith}
 use denote.Ref.{now}
-use lib.ListN.{length}
 use Rattle.theory.specs.Least.{orElse}
 use Rattle.marc.specs.Frame.{entryCount, entryFault, fieldEnd, fieldMark, unmarked as noMark, firstPlace}
 use Rattle.table.specs.Places.{placeIn}

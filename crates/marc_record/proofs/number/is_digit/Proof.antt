@@ -1,5 +1,4 @@
 -- The two comparisons, in the order of the test.
-use borrow.Author.Needs.{needs}
 use borrow.Author.Tests.{le-leb, lt-leb}
 use native.Mathlib.Omega.{arith}
 use Rattle.marc_record.proofs.number.is_digit.Statement.{statement}
