@@ -43,7 +43,9 @@ module _ (text ends numbers : List ℕ) (absent n : ℕ) (count : length (knownI
 
   one-is : (j : ℕ) → j < n → badEntry (knownIn text ends numbers) absent j ≡ badIn text ends numbers absent j
   one-is j l =
-      ap₂ _||_ (some-same j (λ i. same (stringOf (entryOf (knownIn text ends numbers) i)) (stringOf (entryOf (knownIn text ends numbers) j))) (λ i. same (stringIn text ends i) (stringIn text ends j)) (λ i m. ap₂ same (string-of i (omega arith)) (string-of j l)))
+      let ks = knownIn text ends numbers in
+      let before = some-same j (λ i. same (stringOf (entryOf ks i)) (stringOf (entryOf ks j))) (λ i. same (stringIn text ends i) (stringIn text ends j)) in
+      ap₂ _||_ (before (λ i m. ap₂ same (string-of i (omega arith)) (string-of j l)))
       (ap (λ m. eqb m absent) (number-of j l))
 
   -- LAW: the first entry that is bad

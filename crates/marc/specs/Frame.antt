@@ -108,7 +108,7 @@ entryFault r e = orElse (atIf (entryAt e + 3) (badFieldLength r e)) (atIf (entry
 abbrev pub unmarked : List ℕ → ℕ → ℕ → Option ℕ
 unmarked r at mark = atIf at (not (eqb (getD r at 0) mark))
 
--- 17, at the tested number's or mark's first byte. (A record of less than 26 bytes has no whole frame: place 0.)
+-- 17, at the first byte of the number or the mark that fails. (A record of less than 26 bytes has no whole frame: place 0.)
 unfoldable pub frameRows : List ℕ → List Row
 frameRows r =
     row 17 (at0 (ltb (length r) 26))

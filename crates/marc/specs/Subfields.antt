@@ -1,4 +1,5 @@
--- The parts of a field: two indicators, and then subfields. A subfield is hex 1F, a code, and text to the next 1F or the field's end.
+-- The parts of a field: two indicators, and then subfields. Hex 1F opens one; then comes its code, and its text goes on until 1F opens another or the
+-- field is over.
 use mathlib.Core.List.{List, [], _∷_}
 use mathlib.Core.Bool.{Bool, false, _&&_, cond}
 use mathlib.Core.Option.{Option, none, some as just}
@@ -9,7 +10,7 @@ use lib.ListN.{drop}
 abbrev pub subfieldMark : ℕ
 subfieldMark = 31
 
--- the bytes to the next 1F or the end
+-- the bytes before a 1F, or all
 abbrev pub textTo : List ℕ → List ℕ
 textTo [] = []
 textTo (b ∷ bs) = cond (eqb b subfieldMark) [] (b ∷ textTo bs)

@@ -11,7 +11,6 @@ use Rattle.marc.specs.Frame.{entryAt, fieldLength, fieldAt, fieldsFrom}
 use Rattle.marc.specs.Known.{same}
 use Rattle.marc.specs.Heading.{tag100, firstWith}
 use Rattle.marc.proofs.Strings.{left-is}
-use Rattle.marc_record.proofs.Numbers.{left-suc}
 
 -- LAW: three bytes
 pub three-bytes : (r : List ℕ) (at : ℕ) → at + 3 ≤ length r → take 3 (drop at r) ≡ getD r at 0 ∷ getD r (at + 1) 0 ∷ getD r (at + 2) 0 ∷ []

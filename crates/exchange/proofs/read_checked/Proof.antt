@@ -13,8 +13,14 @@ use Rattle.exchange.proofs.read_checked.Tie as tie
 
 returns : tie.Need-returns
 returns c =
-    let a = c .before .before .before .before .before .before .args in
-    refuses (now (a .bytes)) (now (a .text)) (now (a .ends)) (now (a .numbers)) (a .given .heading) (a .given .absent) (now (a .nodes)) Room (no-room (now (a .bytes)) (now (a .text)) (now (a .ends)) (now (a .numbers)) (a .given .heading) (a .given .absent) (now (a .nodes)) (c .before .before .before .before .before .before .pre .0) (omega arith))
+    let start = c .before .before .before .before .before .before in
+    let r = now (start .args .bytes) in
+    let t = now (start .args .text) in
+    let e = now (start .args .ends) in
+    let m = now (start .args .numbers) in
+    let s = now (start .args .nodes) in
+    let given = start .args .given in
+    refuses r t e m (given .heading) (given .absent) s Room (no-room r t e m (given .heading) (given .absent) s (start .pre .0) (omega arith))
 
 read-record-requires : tie.Need-read-record-requires
 read-record-requires c κs = search needs
@@ -39,20 +45,30 @@ slice-write-nodes-3 c =
 
 returns-2 : tie.Need-returns-2
 returns-2 c =
-    let a = c .before .before .before .before .before .before .before .before .before .before .args in
-    let ks = knownIn (now (a .text)) (now (a .ends)) (now (a .numbers)) in
-    let found = subst (RecordLooks (now (a .bytes)) ks (a .given .absent)) (c .before .why .given .1) (c .before .before .before .read-record .ensures) in
-    refuses (now (a .bytes)) (now (a .text)) (now (a .ends)) (now (a .numbers)) (a .given .heading) (a .given .absent) (now (a .nodes)) _ (rows-left (now (a .bytes)) (now (a .text)) (now (a .ends)) (now (a .numbers)) (a .given .heading) (a .given .absent) (now (a .nodes)) (c .before .before .before .before .before .before .before .before .before .before .pre .0) (omega arith) ∙ found)
+    let start = c .before .before .before .before .before .before .before .before .before .before in
+    let r = now (start .args .bytes) in
+    let t = now (start .args .text) in
+    let e = now (start .args .ends) in
+    let m = now (start .args .numbers) in
+    let s = now (start .args .nodes) in
+    let given = start .args .given in
+    let found = subst (RecordLooks r (knownIn t e m) (given .absent)) (c .before .why .given .1) (c .before .before .before .read-record .ensures) in
+    refuses r t e m (given .heading) (given .absent) s _ (rows-left r t e m (given .heading) (given .absent) s (start .pre .0) (omega arith) ∙ found)
 
 same-length : tie.Need-same-length
 same-length c = search needs
 
 returns-3 : tie.Need-returns-3
 returns-3 c =
-    let a = c .before .before .before .before .before .before .before .before .before .before .args in
-    let ks = knownIn (now (a .text)) (now (a .ends)) (now (a .numbers)) in
-    let found = subst (RecordLooks (now (a .bytes)) ks (a .given .absent)) (c .before .name .given .1) (c .before .before .before .read-record .ensures) in
-    writes (now (a .bytes)) (now (a .text)) (now (a .ends)) (now (a .numbers)) (a .given .heading) (a .given .absent) (now (a .nodes)) (c .before .before .before .before .before .before .before .before .before .before .pre .0) (omega arith) _ _ found
+    let start = c .before .before .before .before .before .before .before .before .before .before in
+    let r = now (start .args .bytes) in
+    let t = now (start .args .text) in
+    let e = now (start .args .ends) in
+    let m = now (start .args .numbers) in
+    let s = now (start .args .nodes) in
+    let given = start .args .given in
+    let found = subst (RecordLooks r (knownIn t e m) (given .absent)) (c .before .name .given .1) (c .before .before .before .read-record .ensures) in
+    writes r t e m (given .heading) (given .absent) s (start .pre .0) (omega arith) _ _ found
 
 pub read-checked-spec : {M : Type 1} → statement M
 read-checked-spec =

@@ -43,7 +43,9 @@ is-bad-requires : tie.Need-is-bad-requires Inv-loop μ-loop
 is-bad-requires c κs =
     let a = c .before .before .before .before .before .before .before .args in
     let head = c .before .before .before .loop in
-    (omega arith, omega arith, λ e. unmet (now (a .text)) (now (a .ends)) (head .met) (head .j) (head .inv .2) (λ q. eqb-false (getD (head .met) (c .digest .result) 0) 1 e (ap (λ k. getD (head .met) k 0) (mark-is c) ∙ q)))
+    let mark = c .digest .result in
+    let same-mark : getD (head .met) mark 0 ≡ getD (head .met) (digestOf (stringIn (now (a .text)) (now (a .ends)) (head .j))) 0 = ap (λ k. getD (head .met) k 0) (mark-is c) in
+    (omega arith, omega arith, λ e. unmet (now (a .text)) (now (a .ends)) (head .met) (head .j) (head .inv .2) (λ q. eqb-false (getD (head .met) mark 0) 1 e (same-mark ∙ q)))
 
 returns : tie.Need-returns Inv-loop μ-loop
 returns c =
@@ -65,9 +67,14 @@ loop-again : tie.Need-loop-again Inv-loop μ-loop
 loop-again c =
     let a = c .before .before .before .before .before .before .before .before .before .args in
     let head = c .before .before .before .before .before .loop in
+    let t = now (a .text) in
+    let e = now (a .ends) in
+    let mark = c .before .before .digest in
     let fine = sym (c .before .is-bad .ensures) ∙ c .if1 .left in
-    let mark = c .before .before .digest .ensures .1 in
-    (omega arith, rw (add-one (head .j)) (least-on (badIn (now (a .text)) (now (a .ends)) (now (a .numbers)) (a .absent)) (head .j) (head .inv .1) fine), marked-on (now (a .text)) (now (a .ends)) (head .met) (head .j) (head .inv .2) (c .before .before .digest .result) (mark-is (c .before .before)) (omega (arith, head .inv .3)), length-set (head .met) (c .before .before .digest .result) 1 ∙ head .inv .3)
+    let none-bad = least-on (badIn t e (now (a .numbers)) (a .absent)) (head .j) (head .inv .1) fine in
+    let size = head .inv .3 in
+    let marks = marked-on t e (head .met) (head .j) (head .inv .2) (mark .result) (mark-is (c .before .before)) (omega (arith, mark .ensures .1)) in
+    (omega arith, rw (add-one (head .j)) none-bad, marks, length-set (head .met) (mark .result) 1 ∙ size)
 
 returns-2 : tie.Need-returns-2 Inv-loop μ-loop
 returns-2 c =

@@ -15,7 +15,9 @@ use Rattle.known_strings.proofs.seek.halve.Statement.{statement}
 use Rattle.known_strings.proofs.seek.halve.Tie as tie
 
 abbrev Inv-loop : tie.InvT-loop
-Inv-loop text ends numbers string low₀ high₀ low high = (low ≤ high) × (high ≤ length (knownIn text ends numbers)) × (high ≤ length ends) × (high ≤ length numbers) × Between text ends string (length (knownIn text ends numbers)) low high
+Inv-loop text ends numbers string low₀ high₀ low high =
+    (low ≤ high) × (high ≤ length (knownIn text ends numbers)) × (high ≤ length ends) × (high ≤ length numbers)
+    × Between text ends string (length (knownIn text ends numbers)) low high
 
 abbrev μ-loop : tie.MeasureT-loop
 μ-loop text ends numbers string low₀ high₀ low high = high - low
@@ -68,7 +70,9 @@ loop-again c =
     let t = now (a .text) in
     let e = now (a .ends) in
     let rising = c .before .before .before .before .before .before .before .before .before .before .before .pre in
-    (omega arith, head .inv .1, head .inv .2, head .inv .3, go-up t e (now (a .string)) (length (knownIn t e (now (a .numbers)))) rising (head .low) (head .high) _ (head .inv .4) (omega (arith, head .inv .1)) (told (c .before .before) _ (c .enum-told .given .1)))
+    let n = length (knownIn t e (now (a .numbers))) in
+    let up = go-up t e (now (a .string)) n rising (head .low) (head .high) _ (head .inv .4) (omega (arith, head .inv .1)) (told (c .before .before) _ (c .enum-told .given .1)) in
+    (omega arith, head .inv .1, head .inv .2, head .inv .3, up)
 
 enum-told-2 : tie.Need-enum-told-2 Inv-loop μ-loop
 enum-told-2 c = search needs
@@ -106,7 +110,9 @@ loop-again-2 c =
     let t = now (a .text) in
     let e = now (a .ends) in
     let rising = c .before .before .before .before .before .before .before .before .before .before .before .pre in
-    (omega arith, omega (arith, head .inv .1), omega arith, omega arith, go-down t e (now (a .string)) (length (knownIn t e (now (a .numbers)))) rising (head .low) (head .high) _ (head .inv .4) (told (c .before .before) _ (c .enum-told3 .given .1)))
+    let n = length (knownIn t e (now (a .numbers))) in
+    let down = go-down t e (now (a .string)) n rising (head .low) (head .high) _ (head .inv .4) (told (c .before .before) _ (c .enum-told3 .given .1)) in
+    (omega arith, omega (arith, head .inv .1), omega arith, omega arith, down)
 
 returns-2 : tie.Need-returns-2 Inv-loop μ-loop
 returns-2 c =

@@ -24,7 +24,9 @@ size-is c =
     omega arith
 
 base-fine : (c : tie.After-five2) → Directory (now (c .before .before .before .before .before .before .before .before .before .args .bytes)) (c .five2 .result) ((c .five2 .result - 25) / 12)
-base-fine c = directory (now (c .before .before .before .before .before .before .before .before .before .args .bytes)) (c .five2 .result) (c .five2 .ensures .0) (c .five2 .ensures .1) (c .before .before .fine-base .ensures ∙ c .before .if4 .left)
+base-fine c =
+    let r = now (c .before .before .before .before .before .before .before .before .before .args .bytes) in
+    directory r (c .five2 .result) (c .five2 .ensures .0) (c .five2 .ensures .1) (c .before .before .fine-base .ensures ∙ c .before .if4 .left)
 
 returns : tie.Need-returns
 returns c = too-short (now (c .before .before .args .bytes)) (omega arith)
@@ -48,7 +50,8 @@ fine-base-requires c κs = search needs
 
 returns-4 : tie.Need-returns-4
 returns-4 c =
-    at-base (now (c .before .before .before .before .before .before .before .before .args .bytes)) (omega arith) (is-number (c .before .before .before .before)) (size-is (c .before .before)) (c .before .fine-base .ensures ∙ c .if4 .taken)
+    let r = now (c .before .before .before .before .before .before .before .before .args .bytes) in
+    at-base r (omega arith) (is-number (c .before .before .before .before)) (size-is (c .before .before)) (c .before .fine-base .ensures ∙ c .if4 .taken)
 
 five-requires-2 : tie.Need-five-requires-2
 five-requires-2 c κs = (omega arith, base-number (now (c .before .before .before .before .before .before .before .before .args .bytes)) (c .before .fine-base .ensures ∙ c .if4 .left))
@@ -63,7 +66,9 @@ check-fields-requires c κs = base-fine c
 
 returns-5 : tie.Need-returns-5
 returns-5 c =
-    c .check-fields .ensures ∙ behind-leader (now (c .before .before .before .before .before .before .before .before .before .before .args .bytes)) (omega arith) (is-number (c .before .before .before .before .before .before)) (size-is (c .before .before .before .before)) (c .before .before .before .fine-base .ensures ∙ c .before .before .if4 .left)
+    let r = now (c .before .before .before .before .before .before .before .before .before .before .args .bytes) in
+    let fine = c .before .before .before .fine-base .ensures ∙ c .before .before .if4 .left in
+    c .check-fields .ensures ∙ behind-leader r (omega arith) (is-number (c .before .before .before .before .before .before)) (size-is (c .before .before .before .before)) fine
 
 pub check-frame-spec : {M : Type 1} → statement M
 check-frame-spec =
