@@ -13,8 +13,8 @@ use Rattle.theory.specs.Least.{some, leastBelow}
 use Rattle.meaning.specs.Refusals.{row}
 use Rattle.marc.specs.Known.{same, stringOf, numberOf, entryOf, knownIn, badEntry, row19}
 use Rattle.marc.specs.Order.{before}
-use Rattle.marc.proofs.Order.{none-of, none-twice}
-use Rattle.marc.proofs.Strings.{left-is, same-true}
+use Rattle.marc.proofs.Strings.{none-of, left-is, same-true}
+use Rattle.marc.proofs.Order.{none-twice}
 use Rattle.known_strings.specs.Lent.{stringIn, RisesTo, listedAbove, badIn, digestFrom, digestOf}
 use Rattle.known_strings.proofs.Entries.{in-both, string-is, number-is}
 

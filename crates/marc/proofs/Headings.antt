@@ -63,8 +63,16 @@ module _ (r : List ℕ) (ks : List Known) (heading absent : ℕ) (output : List 
   unfolding headingRows
   split = append-none (row19 ks absent ∷ row8-output 3 output ∷ frameRows r) (row20 r ∷ row21 r ∷ row22 ks r ∷ []) e
 
-  list-fine : Silent (row19 ks absent)
+  pub list-fine : Silent (row19 ks absent)
   list-fine = all-silent (row19 ks absent ∷ row8-output 3 output ∷ frameRows r) (split .0) .0
+
+  pub frame-fine : first (frameRows r) ≡ none
+  frame-fine = append-none (row19 ks absent ∷ row8-output 3 output ∷ []) (frameRows r) (split .0) .1
+
+  -- LAW: there is room
+  pub room : 3 ≤ length output
+  unfolding row8-output
+  room = ltb-false (length output) 3 (at0-none (ltb (length output) 3) (all-silent (row19 ks absent ∷ row8-output 3 output ∷ frameRows r) (split .0) .1 .0))
 
   has-100 : missing (field100 r) ≡ false
   unfolding row20
