@@ -3,3 +3,4 @@ pub mod Digits
 pub mod Titles
 pub mod Saying
 pub mod Going
+pub mod Turning

@@ -1,3 +1,4 @@
 -- Names that contracts use.
 pub mod Pendings
 pub mod Titles
+pub mod Turns

@@ -6,6 +6,7 @@ ghost use Rattle.refusal.specs.Outcomes.{resultOf};
 ghost use Rattle.lines.specs.Lines.{lineRoom, textIn, Spanned};
 ghost use Rattle.lines.specs.Lengths.{mostSets};
 ghost use Rattle.output.specs.Pendings.{Said, HandedOver, Settled, handed, withWritten, isOver};
+ghost use Rattle.output.specs.Turns.{MustWrite};
 use lines::filling::fill;
 use lines::line::Cursor;
 use refusal::Outcome;
@@ -29,6 +30,13 @@ pub fn write_out(out: &[u8], used: usize) -> Pending
     }
     os::fail(b"standard output");
     Pending::Failed
+}
+
+// Whether one has to wait, which is where the two places meet, and has something to write before.
+pub fn must_write(at: usize, end: usize, used: usize) -> bool
+    ensures { λ r. ⌜ MustWrite at end used r ⌝ }
+{
+    at == end && 0 < used
 }
 
 // Before one waits, what stands in the buffer is written.

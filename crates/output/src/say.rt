@@ -7,6 +7,7 @@ ghost use Rattle.text.specs.Texts.{PutBy};
 ghost use Rattle.lines.specs.Lines.{lineRoom};
 ghost use Rattle.output.specs.Pendings.{Said, Roomy};
 ghost use Rattle.output.specs.Titles.{titleText, cutOffText, titleRoom};
+use crate::long::put_long;
 use crate::pending::Pending;
 use crate::pending::put_answer;
 use crate::pending::with_written;
@@ -18,7 +19,7 @@ use text::put_byte;
 use text::put_text;
 
 // Writes the buffer out if it has no room for a line.
-fn make_room(out: &[u8], used: usize) -> Pending
+pub fn make_room(out: &[u8], used: usize) -> Pending
     requires { ⌜ (used ≤ length (now out)) × (lineRoom ≤ length (now out)) ⌝ }
     ensures { λ r. ⌜ Said (now (out .entry)) used [] r (now (out .entry)) × Roomy (length (now (out .entry))) lineRoom r ⌝ }
 {
@@ -33,10 +34,8 @@ fn put_title(k: u64, out: &mut [u8], at: usize) -> usize
     requires { ⌜ at + lineRoom ≤ length (now out) ⌝ }
     ensures { λ r. ⌜ PutBy (now (out .entry)) at (titleText k) r (now (out .exit)) ⌝ }
 {
-    let mut digits = [0u8; 20];
-    let n = io::decimal(k, &mut digits);
     let word_end = put_text(out, at, b"question ");
-    let number_end = put_text(out, word_end, &digits[..n]);
+    let number_end = put_long(out, word_end, k);
     put_byte(out, number_end, 10)
 }
 

@@ -2,7 +2,6 @@
 -- the turns before it.
 use mathlib.Core.Path.{_≡_, refl, sym, subst}
 use mathlib.Core.List.{List, [], _++_}
-use mathlib.Core.Bool.{Bool, true, false}
 use Prim.Native.Nat.{ℕ, _+_, _≤_}
 use native.Mathlib.Omega.{arith}
 use lib.ListN.{length}
@@ -12,74 +11,44 @@ use Rattle.input.specs.Coming.{Coming, ended, Comes}
 use Rattle.input.specs.Found.{foundIn}
 use Rattle.output.specs.declared.pending.Pending.{Pending}
 use Rattle.output.specs.declared.pending.Pending.the-variants.{Bytes, Failed as NotWritten}
-use Rattle.output.specs.Pendings.{Passed, Said, Settled}
-use Rattle.output.proofs.Saying.{passed-none, passed-out, passed-then}
+use Rattle.output.specs.Pendings.{Said}
+use Rattle.output.proofs.Saying.{passed-none, passed-then}
+use Rattle.output.proofs.Turning.{Prepared, answered, unanswered, answered-behind, unanswered-behind}
 use Rattle.replay.specs.declared.Turn.{Turn}
 use Rattle.replay.specs.declared.Turn.the-variants.{Go, Stop, Failed}
 use Rattle.replay.specs.Batches.{turnText, GoesOn, Stops, none, further}
-use Rattle.replay.specs.Turns.{goOn, stopAt, MustWrite, Answered, TurnFrom, TurnOf, TurnsBy}
+use Rattle.replay.specs.Turns.{goOn, stopAt, TurnFrom, TurnOf, TurnsBy}
 use Rattle.replay.proofs.Begins.{begun-more}
 
 module _ (k : ℕ) (next : Next) (buffer before : List ℕ) (used : ℕ) (after : List ℕ) (coming : Coming) (is : coming ≡ foundIn buffer next) where
   -- LAW: what is said goes on with the bytes behind it
   pub answered-go : (at end : ℕ) (pending : Pending) (turn : Turn) → turn ≡ goOn at end pending → at ≤ end → end ≤ length buffer → GoesOn coming (unread buffer at end)
       → Said before used (turnText k coming) pending after → TurnOf k next buffer before used turn after
-  answered-go at end (Bytes written standing) turn e l m goes said =
-      rw e (l, m, record { next = coming; has = (is, goes); written = written; passed = said .0; first = λ never. absurd never; later = λ _. said .1 })
-  answered-go at end NotWritten turn e l m goes said = rw e (λ _. record { next = coming; has = is; full = said })
+  answered-go at end (Bytes written standing) turn e l m goes said = rw e (l, m, answered (turnText k) coming (is, goes) said)
+  answered-go at end NotWritten turn e l m goes said = rw e (λ _. unanswered (turnText k) coming is after said)
 
   -- LAW: or it is the last
   pub answered-stop : (pending : Pending) (turn : Turn) → turn ≡ stopAt pending → Stops coming
       → Said before used (turnText k coming) pending after → TurnOf k next buffer before used turn after
-  answered-stop (Bytes written standing) turn e stops said = rw e (record { next = coming; has = (is, stops); written = written; passed = said .0; first = λ never. absurd never; later = λ _. said .1 })
-  answered-stop NotWritten turn e stops said = rw e (λ _. record { next = coming; has = is; full = said })
+  answered-stop (Bytes written standing) turn e stops said = rw e (answered (turnText k) coming (is, stops) said)
+  answered-stop NotWritten turn e stops said = rw e (λ _. unanswered (turnText k) coming is after said)
 
 -- LAW: where the batch has ended there is nothing to say
 pub said-nothing : (k : ℕ) (before : List ℕ) (used : ℕ) → used ≤ length before → Said before used (turnText k ended) (Bytes 0 used) before
 unfolding turnText
 said-nothing k before used l = (passed-none l, λ _. refl)
 
--- before it waits what stood in the buffer is handed over, and else it stays
-pub record Prepared (at end : ℕ) (before : List ℕ) (used gone left : ℕ) : Type 0 where
-  pub passed : Passed before used [] gone left before
-  pub first : at ≡ end → used ≤ gone
-  pub stays : (at ≡ end → used ≡ 0) → left ≡ used
-
-module _ (at end : ℕ) (before : List ℕ) (used : ℕ) (inside : used ≤ length before) where
-  pub ready-by : (waits : Bool) → MustWrite at end used waits → (gone left : ℕ) → Settled used waits (Bytes gone left) → Prepared at end before used gone left
-  ready-by true must gone left (e, f) = record { passed = passed-out inside (e, f); first = λ _. omega arith; stays = λ idle. absurd (omega (arith, idle (must .0), must .1)) }
-  ready-by false must gone left e =
-      let none-gone : gone ≡ 0 = cc in
-      let all-left : left ≡ used = cc in
-      record { passed = rw (none-gone, all-left) (passed-none inside); first = λ e. omega (arith, must e); stays = λ _. all-left }
-
-  pub failed-by : (waits : Bool) → MustWrite at end used waits → Settled used waits NotWritten → (at ≡ end → used ≡ 0) → ⊥
-  failed-by true must _ idle = omega (arith, idle (must .0), must .1)
-  failed-by false must e idle = let z : _≡_ {A = ℕ} 0 1 = cc in omega arith
-
-module _ (k : ℕ) (bytes : List ℕ) (at end : ℕ) (buffer before : List ℕ) (used : ℕ) (next : Next) (more : List ℕ) (comes : Comes (bytes ++ more) (foundIn buffer next))
-    (gone left : ℕ) (inside : used ≤ length before) (ready : Prepared at end before used gone left) where
-  -- what is said behind what stood is said of these bytes too, whatever else is known of what came
-  said-taken : {Also : Coming → Type 0} {standing : ℕ} {after : List ℕ} → Answered (λ coming. (coming ≡ foundIn buffer next) × Also coming) ⊥ k before left standing after
-      → Answered (λ coming. ((more : List ℕ) × Comes (bytes ++ more) coming) × Also coming) (at ≡ end) k before used standing after
-  said-taken r = record {
-    next = r .next;
-    has = ((more, subst (Comes (bytes ++ more)) (sym (r .has .0)) comes), r .has .1);
-    written = gone + r .written;
-    passed = passed-then inside (ready .passed) (r .passed) refl;
-    first = λ e. omega (arith, ready .first e);
-    later = λ idle room. omega (arith, ready .stays idle, ready .passed .counted, r .later (λ never. absurd never) (omega (arith, ready .stays idle)));
-  }
+module _ (k : ℕ) (bytes : List ℕ) (Waits : Type 0) (buffer before : List ℕ) (used : ℕ) (next : Next) (more : List ℕ) (comes : Comes (bytes ++ more) (foundIn buffer next))
+    (gone left : ℕ) (inside : used ≤ length before) (ready : Prepared Waits before used gone left) where
+  -- what was found is what comes in these bytes
+  found : (coming : Coming) → coming ≡ foundIn buffer next → (more : List ℕ) × Comes (bytes ++ more) coming
+  found coming is = (more, subst (Comes (bytes ++ more)) (sym is) comes)
 
   -- LAW: the turn of what was found is one of the bytes in which it was found
-  pub turn-taken : (turn : Turn) (after : List ℕ) → TurnOf k next buffer before left turn after → TurnFrom k bytes (at ≡ end) buffer before used turn after
-  turn-taken (Go at′ end′ standing) after (l, m, r) = (l, m, said-taken {Also = λ coming. GoesOn coming (unread buffer at′ end′)} r)
-  turn-taken (Stop standing) after r = said-taken {Also = Stops} r
-  turn-taken Failed after r = λ idle. record {
-    next = r (λ never. absurd never) .next;
-    has = (more, subst (Comes (bytes ++ more)) (sym (r (λ never. absurd never) .has)) comes);
-    full = λ room. r (λ never. absurd never) .full (omega (arith, ready .stays idle));
-  }
+  pub turn-taken : (turn : Turn) (after : List ℕ) → TurnOf k next buffer before left turn after → TurnFrom k bytes Waits buffer before used turn after
+  turn-taken (Go at end standing) after (l, m, r) = (l, m, answered-behind (turnText k) inside ready (λ coming has. (found coming (has .0), has .1)) r)
+  turn-taken (Stop standing) after r = answered-behind (turnText k) inside ready (λ coming has. (found coming (has .0), has .1)) r
+  turn-taken Failed after r = λ idle. unanswered-behind (turnText k) inside ready found idle (r (λ never. absurd never))
 
 module _ (k : ℕ) (before : List ℕ) where
   -- LAW: before the first turn nothing is read or said

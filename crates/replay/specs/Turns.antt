@@ -1,8 +1,7 @@
 -- What comes of a turn, and of turn after turn: what is said, and with which bytes it goes on.
 use mathlib.Core.Path.{_≡_}
 use mathlib.Core.List.{List, _++_}
-use mathlib.Core.Bool.{Bool, true, false}
-use Prim.Native.Nat.{ℕ, _≤_, _<_}
+use Prim.Native.Nat.{ℕ, _≤_}
 use lib.ListN.{length}
 use Rattle.input.specs.Unreads.{unread}
 use Rattle.input.specs.declared.batch.Next.{Next}
@@ -10,7 +9,7 @@ use Rattle.input.specs.Coming.{Coming, Comes}
 use Rattle.input.specs.Found.{foundIn}
 use Rattle.output.specs.declared.pending.Pending.{Pending}
 use Rattle.output.specs.declared.pending.Pending.the-variants.{Bytes, Failed as NotWritten}
-use Rattle.output.specs.Pendings.{Passed, HasRoom}
+use Rattle.output.specs.Turns.{Answered, Unanswered, Spoken}
 use Rattle.replay.specs.declared.Turn.{Turn}
 use Rattle.replay.specs.declared.Turn.the-variants.{Go, Stop, Failed}
 use Rattle.replay.specs.Batches.{turnText, GoesOn, Stops, Begins, WholeBatch}
@@ -23,32 +22,12 @@ abbrev pub stopAt : Pending → Turn
 stopAt (Bytes written standing) = Stop standing
 stopAt NotWritten = Failed
 
--- It has to wait for more bytes and has something to write before; or it has not.
-abbrev pub MustWrite : (at end used : ℕ) → Bool → Type 0
-MustWrite at end used true = (at ≡ end) × (0 < used)
-MustWrite at end used false = at ≡ end → used ≡ 0
-
--- Something came next, of which `Has` holds, and what there is to say of it, as question k, is said; or it is not, for want of room.
--- Where it had to wait, what stood in the buffer was handed over first; where it had not, and there is room, nothing was.
-pub record Answered (Has : Coming → Type 0) (Waits : Type 0) (k : ℕ) (before : List ℕ) (used standing : ℕ) (after : List ℕ) : Type 0 where
-  pub next : Coming
-  pub has : Has next
-  pub written : ℕ
-  pub passed : Passed before used (turnText k next) written standing after
-  pub first : Waits → used ≤ written
-  pub later : (Waits → used ≡ 0) → HasRoom before used (turnText k next) → written ≡ 0
-
-pub record Unanswered (Has : Coming → Type 0) (k : ℕ) (before : List ℕ) (used : ℕ) : Type 0 where
-  pub next : Coming
-  pub has : Has next
-  pub full : HasRoom before used (turnText k next) → ⊥
-
 -- One turn: it goes on with the bytes behind the question, or the batch is over. A write fails for want of room alone, but for that of what
 -- stood in the buffer before it waits.
 abbrev pub TurnBy : (Coming → Type 0) → Type 0 → ℕ → (buffer before : List ℕ) → ℕ → Turn → List ℕ → Type 0
-TurnBy Has Waits k buffer before used (Go at end standing) after = (at ≤ end) × (end ≤ length buffer) × Answered (λ next. Has next × GoesOn next (unread buffer at end)) Waits k before used standing after
-TurnBy Has Waits k buffer before used (Stop standing) after = Answered (λ next. Has next × Stops next) Waits k before used standing after
-TurnBy Has Waits k buffer before used Failed after = (Waits → used ≡ 0) → Unanswered Has k before used
+TurnBy Has Waits k buffer before used (Go at end standing) after = (at ≤ end) × (end ≤ length buffer) × Answered (turnText k) (λ next. Has next × GoesOn next (unread buffer at end)) Waits before used standing after
+TurnBy Has Waits k buffer before used (Stop standing) after = Answered (turnText k) (λ next. Has next × Stops next) Waits before used standing after
+TurnBy Has Waits k buffer before used Failed after = (Waits → used ≡ 0) → Unanswered (turnText k) Has before used
 
 -- The turn of what was found next; and the turn of bytes that are not used yet, with those that are read behind them.
 abbrev pub TurnOf : ℕ → Next → (buffer before : List ℕ) → ℕ → Turn → List ℕ → Type 0
@@ -56,14 +35,6 @@ TurnOf k next buffer before used turn after = TurnBy (λ coming. coming ≡ foun
 
 abbrev pub TurnFrom : ℕ → (bytes : List ℕ) → Type 0 → (buffer before : List ℕ) → ℕ → Turn → List ℕ → Type 0
 TurnFrom k bytes Waits buffer before used turn after = TurnBy (λ coming. (more : List ℕ) × Comes (bytes ++ more) coming) Waits k buffer before used turn after
-
--- Bytes were read, their text is said, and so much of it stands in the buffer.
-pub record Spoken (Has : (bytes text : List ℕ) → Type 0) (before : List ℕ) (standing : ℕ) (after : List ℕ) : Type 0 where
-  pub bytes : List ℕ
-  pub text : List ℕ
-  pub has : Has bytes text
-  pub written : ℕ
-  pub passed : Passed before 0 text written standing after
 
 -- After k turns: the first k questions of what was read are answered, or all of it is. What was to be written when a write failed stands
 -- nowhere any more.

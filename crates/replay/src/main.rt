@@ -6,10 +6,11 @@ ghost use Rattle.lines.specs.Lines.{lineRoom};
 ghost use Rattle.shape.specs.Rooms.{mostRoom};
 ghost use Rattle.input.specs.Unreads.{unread};
 ghost use Rattle.input.specs.Found.{Found};
-ghost use Rattle.replay.specs.Turns.{goOn, stopAt, MustWrite, TurnOf, TurnFrom, TurnsBy};
+ghost use Rattle.replay.specs.Turns.{goOn, stopAt, TurnOf, TurnFrom, TurnsBy};
 use input::batch::Next;
 use input::batch::next_question;
 use output::pending::Pending;
+use output::pending::must_write;
 use output::pending::settle;
 use output::pending::write_out;
 use output::say::say_cut_off;
@@ -70,13 +71,6 @@ fn answer_next(
             say_answer(k, &buffer[start..rest], sets, out, used),
         ),
     }
-}
-
-// Whether it has to wait for more bytes, and has something to write before.
-fn must_write(at: usize, end: usize, used: usize) -> bool
-    ensures { λ r. ⌜ MustWrite at end used r ⌝ }
-{
-    at == end && 0 < used
 }
 
 // One turn. Before it waits for more bytes it writes what it has, so that one who asks question by question is answered so too.

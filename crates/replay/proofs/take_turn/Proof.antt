@@ -1,12 +1,13 @@
 -- What was read is answered behind what was handed over before it waits.
 use borrow.Author.Needs.{needs}
-use mathlib.Core.Path.{sym, subst}
+use mathlib.Core.Path.{_≡_, sym, subst}
 use native.Mathlib.Omega.{arith}
 use denote.Ref.{now}
 use Rattle.input.specs.Unreads.{unread}
 use Rattle.input.specs.Found.{Found}
 use Rattle.output.specs.Pendings.{Settled}
-use Rattle.replay.proofs.Turning.{Prepared, ready-by, failed-by, turn-taken}
+use Rattle.output.proofs.Turning.{Prepared, ready-by, failed-by}
+use Rattle.replay.proofs.Turning.{turn-taken}
 use Rattle.replay.proofs.take_turn.Statement.{statement}
 use Rattle.replay.proofs.take_turn.Tie as tie
 
@@ -23,7 +24,7 @@ next-question-requires : tie.Need-next-question-requires
 next-question-requires c κs = search needs
 
 -- what stood in the buffer is handed over, or it stays
-ready : (c : tie.After-known-told) → let a = c .before .before .before .before .before .before .before .before .before .args in let left = c .before .left .given .0 in Prepared (a .at) (a .end) (now (a .out)) (a .used) (left .0) (left .1 .0)
+ready : (c : tie.After-known-told) → let a = c .before .before .before .before .before .before .before .before .before .args in let left = c .before .left .given .0 in Prepared (a .at ≡ a .end) (now (a .out)) (a .used) (left .0) (left .1 .0)
 ready c =
     let s = c .before .before .before .before .before .before .before .before .before in
     let a = s .args in
@@ -54,7 +55,7 @@ returns c =
     let a = s .args in
     let next = c .before .before .before .before .before .before .before .before .before .before .next-question in
     let answered = c .before .before .before .before .answer-next in
-    turn-taken (a .k) (unread (now (a .buffer)) (a .at) (a .end)) (a .at) (a .end) _ (now (a .out)) (a .used) (next .result) (next .ensures .more) (next .ensures .comes)
+    turn-taken (a .k) (unread (now (a .buffer)) (a .at) (a .end)) (a .at ≡ a .end) _ (now (a .out)) (a .used) (next .result) (next .ensures .more) (next .ensures .comes)
     _ _ (s .pre .1 .1) (ready (c .before .before .before .before .before .before .before .before .before .before .before .before)) (answered .result) _ (answered .ensures)
 
 same-length-4 : tie.Need-same-length-4

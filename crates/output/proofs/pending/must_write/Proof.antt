@@ -5,9 +5,9 @@ use mathlib.Core.Bool.{Bool, true, false}
 use Prim.Native.Nat.{ℕ}
 use native.Mathlib.Omega.{arith}
 use lib.Dec.{ltb}
-use Rattle.replay.specs.Turns.{MustWrite}
-use Rattle.replay.proofs.must_write.Statement.{statement}
-use Rattle.replay.proofs.must_write.Tie as tie
+use Rattle.output.specs.Turns.{MustWrite}
+use Rattle.output.proofs.pending.must_write.Statement.{statement}
+use Rattle.output.proofs.pending.must_write.Tie as tie
 
 waiting : (at end used : ℕ) → at ≡ end → (some : Bool) → ltb 0 used ≡ some → MustWrite at end used some
 waiting at end used e true t = (e, ltb-true 0 used t)
