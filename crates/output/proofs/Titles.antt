@@ -11,6 +11,10 @@ use Rattle.text.proofs.Puts.{put-then}
 use Rattle.lines.proofs.Lengths.{digits-short}
 use Rattle.output.specs.Titles.{questionWord, titleText, titleRoom}
 
+-- LAW: one text for another that is the same
+pub put-same : {a b text more : List ℕ} {at n : ℕ} → text ≡ more → PutBy a at text n b → PutBy a at more n b
+put-same {a} {b} {text} {more} {at} {n} e = subst (λ t. PutBy a at t n b) e
+
 module _ (word : List ℕ) (k : ℕ) where
   -- LAW: no such line is longer
   pub numbered-short : length (line (word ∷ digits 20 k [] ∷ [])) ≤ length word + 22
@@ -22,7 +26,7 @@ module _ (word : List ℕ) (k : ℕ) where
   put-numbered {a} {b} {d} {e} {at} {i} {j} {n} first number end l m =
       let parts : ((word ++ (32 ∷ [])) ++ digits 20 k []) ++ (10 ∷ []) ≡ line (word ∷ digits 20 k [] ∷ []) =
       append-assoc (word ++ (32 ∷ [])) (digits 20 k []) (10 ∷ []) ∙ append-assoc word (32 ∷ []) (digits 20 k [] ++ (10 ∷ [])) in
-      subst (λ t. PutBy a at t n e) parts (put-then (put-then first number l) end (m ∙ l))
+      put-same parts (put-then (put-then first number l) end (m ∙ l))
 
 -- LAW: no title is longer
 pub title-short : (k : ℕ) → length (titleText k) ≤ titleRoom

@@ -1,12 +1,11 @@
 -- The digits are as many as the number has, at most twenty, and spelt as the meaning has them.
 use borrow.Author.Needs.{needs}
-use mathlib.Core.Path.{_≡_, sym, subst, _∙_}
-use mathlib.Core.List.{List}
-use Prim.Native.Nat.{ℕ, _≤_}
+use mathlib.Core.Path.{sym, _∙_}
+use Prim.Native.Nat.{_≤_}
 use native.Mathlib.Omega.{arith}
 use lib.Seq.{length-take-le}
-use Rattle.text.specs.Texts.{PutBy}
 use Rattle.output.proofs.Digits.{few-digits, same-digits}
+use Rattle.output.proofs.Titles.{put-same}
 use Rattle.output.proofs.long.put_long.Statement.{statement}
 use Rattle.output.proofs.long.put_long.Tie as tie
 
@@ -18,9 +17,6 @@ array-share-prefix-spelt c = search needs
 
 slice-aggregate-put-text : tie.Need-slice-aggregate-put-text
 slice-aggregate-put-text c = sym (length-take-le _ _ (array-share-prefix-spelt (c .before)))
-
-put-same : {a b text more : List ℕ} {at n : ℕ} → text ≡ more → PutBy a at text n b → PutBy a at more n b
-put-same {a} {b} {text} {more} {at} {n} e = subst (λ t. PutBy a at t n b) e
 
 -- how many bytes are put
 few : (c : tie.After-spelt2) → c .before .before .decimal .result ≤ 20
