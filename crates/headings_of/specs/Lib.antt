@@ -1,0 +1,3 @@
+-- Names that contracts use.
+pub mod Texts
+pub mod Turns
