@@ -28,7 +28,8 @@ module _ (heading absent : ℕ) (ks : List Known) where
 
   module _ (k : ℕ) (buffer : List ℕ) (rest : Rest) (bytes text : List ℕ) (so : SaidSo heading absent ks k buffer rest bytes text) where
     -- LAW: one record more
-    said-on : (now : Rest) (buffer′ its : List ℕ) (next : TextOf heading absent ks k buffer rest now buffer′ its) → SaidSo heading absent ks (k + 1) buffer′ now (bytes ++ next .more) (text ++ its)
+    said-on : (now : Rest) (buffer′ its : List ℕ) (next : TextOf heading absent ks k buffer rest now buffer′ its)
+        → SaidSo heading absent ks (k + 1) buffer′ now (bytes ++ next .more) (text ++ its)
     said-on now buffer′ its next = record { says = says; among = among }
       where
         says : (beyond : List ℕ) → MayFollow now beyond → headingsText heading absent ks ((bytes ++ next .more) ++ beyond) ≡ (text ++ its) ++ from (k + 1) (restIn buffer′ now ++ beyond)
@@ -73,9 +74,9 @@ module _ (heading absent : ℕ) (ks : List Known) where
 
     -- LAW: one turn more
     pub turns-more : (buffer mid : List ℕ) (rest : Rest) (used : ℕ) → TurnsBy heading absent ks k buffer before (Go rest used) mid
-        → (Waits : Type 0) (buffer′ after : List ℕ) (turn : Turn) → TurnBy heading absent ks Waits k buffer rest mid used turn buffer′ after
+        → (buffer′ after : List ℕ) (turn : Turn) → TurnBy heading absent ks k buffer rest mid used turn buffer′ after
         → TurnsBy heading absent ks (k + 1) buffer′ before turn after
-    turns-more buffer mid rest used (_, t) Waits buffer′ after (Go now standing) r = (
+    turns-more buffer mid rest used (_, t) buffer′ after (Go now standing) r = (
       r .has .read .held,
       record {
         bytes = t .bytes ++ r .has .more;
@@ -85,14 +86,14 @@ module _ (heading absent : ℕ) (ks : List Known) where
         passed = passed-then (omega arith) (t .passed) (r .passed) refl;
       },
     )
-    turns-more buffer mid rest used (_, t) Waits buffer′ after (Stop standing) r = record {
+    turns-more buffer mid rest used (_, t) buffer′ after (Stop standing) r = record {
       bytes = t .bytes ++ r .has .1 .0;
       text = t .text ++ r .next;
       has = said-all k buffer rest (t .bytes) (t .text) (t .has) (r .next) (r .has);
       written = t .written + r .written;
       passed = passed-then (omega arith) (t .passed) (r .passed) refl;
     }
-    turns-more buffer mid rest used t Waits buffer′ after Failed r = tt
+    turns-more buffer mid rest used t buffer′ after Failed r = tt
 
   module _ (k m : ℕ) (buffer before after : List ℕ) (turn : Turn) where
     -- LAW: once the input is over, or a write has failed, more turns change nothing
@@ -120,7 +121,8 @@ list-says {file} {before} {buffer} {after} {turn} {heading} {absent} {lent} {ks}
 }
 
 -- LAW: what is still to be written lies in the buffer
-pub ending-inside : (file before : List ℕ) (ending : Ending) (buffer after : List ℕ) (turn : Turn) → ending ≡ Turns turn → EndingBy file before ending buffer after → Stands (length after) turn
+pub ending-inside : (file before : List ℕ) (ending : Ending) (buffer after : List ℕ) (turn : Turn) → ending ≡ Turns turn
+    → EndingBy file before ending buffer after → Stands (length after) turn
 ending-inside file before ending buffer after turn e by =
     let told = subst (λ r. EndingBy file before r buffer after) e by in
     turns-inside (told .heading) (told .absent) (told .ks) uncounted buffer before turn after (told .turns)

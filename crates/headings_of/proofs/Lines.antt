@@ -17,7 +17,7 @@ use Rattle.exchange.specs.declared.Fault.{Fault}
 use Rattle.exchange.specs.declared.Headed.{Headed}
 use Rattle.exchange.specs.declared.Headed.the-variants.{Written, Refused}
 use Rattle.output.proofs.Titles.{numbered-short}
-use Rattle.headings_of.specs.Texts.{recordRoom}
+use Rattle.headings_of.specs.Rooms.{recordRoom}
 
 -- LAW: no line with a record's number is longer
 pub record-short : (k : ℕ) → length (recordLine k) ≤ recordRoom
@@ -47,7 +47,8 @@ module _ (bytes text ends numbers : List ℕ) (heading absent : ℕ) (r : Headed
       ap (λ ns. line (headingWord ∷ map decimal ns)) nodes ∙ ap (λ a. answerLine a (headingOf bytes (knownIn text ends numbers) heading absent (zeros 3))) (sym written)
 
   -- LAW: a refusal's line
-  pub refusal-is : (why : Fault) → r ≡ Refused why → line (refusedWord ∷ decimal (numberOf (told why)) ∷ longDecimal (placeOf (told why)) ∷ []) ≡ answerText heading absent (knownIn text ends numbers) bytes
+  pub refusal-is : (why : Fault) → r ≡ Refused why
+      → line (refusedWord ∷ decimal (numberOf (told why)) ∷ longDecimal (placeOf (told why)) ∷ []) ≡ answerText heading absent (knownIn text ends numbers) bytes
   unfolding answerText
   refusal-is why e =
       let nodes = headingOf bytes (knownIn text ends numbers) heading absent (zeros 3) in

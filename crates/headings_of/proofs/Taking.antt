@@ -26,7 +26,7 @@ use Rattle.output.proofs.Turning.{Prepared, answered, unanswered, answered-behi
 use Rattle.headings_of.specs.declared.answering.Turn.{Turn}
 use Rattle.headings_of.specs.declared.answering.Turn.the-variants.{Stop}
 use Rattle.headings_of.specs.Texts.{recordText}
-use Rattle.headings_of.specs.Turns.{CutIn, goOn, ended, endless, CutSaid, TextOf, NoText, TurnBy}
+use Rattle.headings_of.specs.Turns.{CutIn, goOn, ended, endless, CutSaid, TextOf, NoText, Waits, TurnBy}
 
 -- LAW: no mark is found where none stands
 pub mark-at-end : (buffer : List ℕ) (rest : Rest) (mark : ℕ) → Held buffer rest → MarkBy (restIn buffer rest) (rest .at) (rest .end) mark → NoMark (restIn buffer rest) → mark ≡ rest .end
@@ -45,8 +45,8 @@ next-in buffer rest Endless buffer′ next = tt
 
 module _ (heading absent : ℕ) (ks : List Known) (k : ℕ) where
   -- LAW: what is said of a cut that is told
-  pub cut-said : (buffer : List ℕ) (cut told : Cut) (before : List ℕ) (used : ℕ) (turn : Turn) (after : List ℕ) → cut ≡ told → CutSaid heading absent ks k buffer told before used turn after
-      → CutSaid heading absent ks k buffer cut before used turn after
+  pub cut-said : (buffer : List ℕ) (cut told : Cut) (before : List ℕ) (used : ℕ) (turn : Turn) (after : List ℕ) → cut ≡ told
+      → CutSaid heading absent ks k buffer told before used turn after → CutSaid heading absent ks k buffer cut before used turn after
   cut-said buffer cut told before used turn after e said = subst (λ c. CutSaid heading absent ks k buffer c before used turn after) (sym e) said
 
   -- one that is too long has the text of no bytes
@@ -62,18 +62,18 @@ module _ (heading absent : ℕ) (ks : List Known) (k : ℕ) where
       next = λ beyond may. let n = next .next beyond may in (n .0, is (n .0) (n .1), n .2);
     }
 
-    module _ (Waits : Type 0) (before : List ℕ) (used gone left : ℕ) (inside : used ≤ length before) (ready : Prepared Waits before used gone left) (after : List ℕ) where
+    module _ (before : List ℕ) (used gone left : ℕ) (inside : used ≤ length before) (ready : Prepared (Waits buffer rest) before used gone left) (after : List ℕ) where
       goes : (text : List ℕ) (now : Rest) → TextOf heading absent ks k buffer rest now buffer′ text → (pending : Pending) → Said before left text pending after
-          → TurnBy heading absent ks Waits k buffer rest before used (goOn now pending) buffer′ after
+          → TurnBy heading absent ks k buffer rest before used (goOn now pending) buffer′ after
       goes text now is (Bytes written standing) said = answered-behind (λ t. t) inside ready (λ _ has. has) (answered (λ t. t) text is said)
       goes text now is NotWritten said = λ idle. unanswered-behind (λ t. t) inside ready (λ _ has. has) idle (unanswered (λ t. t) text (now, is) after said)
 
-      stops : NoText heading absent ks buffer rest [] → after ≡ before → TurnBy heading absent ks Waits k buffer rest before used (Stop left) buffer′ after
+      stops : NoText heading absent ks buffer rest [] → after ≡ before → TurnBy heading absent ks k buffer rest before used (Stop left) buffer′ after
       stops over e = answered-behind (λ t. t) inside ready (λ _ has. has) (answered (λ t. t) [] over (rw e (passed-none (ready .passed .inside)), λ _. refl))
 
       -- LAW: the turn of what was cut off
       pub turn-taken : (cut : Cut) → NextBy buffer rest cut buffer′ → (turn : Turn) → CutSaid heading absent ks k buffer′ cut before left turn after
-          → TurnBy heading absent ks Waits k buffer rest before used turn buffer′ after
+          → TurnBy heading absent ks k buffer rest before used turn buffer′ after
       turn-taken (Whole start now) (l, next) turn r =
           let text = recordText heading absent ks k (unread buffer′ start (now .at)) in
           rw (r .turn-is) (goes text now (text-of text now (λ bytes e. ap (recordText heading absent ks k) (sym e)) next) (r .pending) (r .said))

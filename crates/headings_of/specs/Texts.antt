@@ -1,4 +1,4 @@
--- What is said of a record, and the room that its lines take.
+-- What is said of a record.
 use mathlib.Core.List.{List, _++_}
 use Prim.Native.Nat.{ℕ}
 use Rattle.marc.specs.Known.{Known}
@@ -7,10 +7,3 @@ use Rattle.marc.specs.Printed.{recordLine, answerText}
 -- of record k: the line with its number, and the line with its answer
 abbrev pub recordText : ℕ → ℕ → List Known → ℕ → List ℕ → List ℕ
 recordText heading absent ks k bytes = recordLine k ++ answerText heading absent ks bytes
-
--- No line with a record's number has more bytes, and no answer has.
-abbrev pub recordRoom : ℕ
-recordRoom = 28
-
-abbrev pub answerRoom : ℕ
-answerRoom = 35

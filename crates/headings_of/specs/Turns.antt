@@ -12,7 +12,7 @@ use Rattle.marc_input.specs.declared.rest.Rest.{Rest}
 use Rattle.marc_input.specs.declared.cutting.Cut.{Cut}
 use Rattle.marc_input.specs.declared.cutting.Cut.the-variants.{Whole, TooLong, Ended, Endless}
 use Rattle.marc_input.specs.Rests.{Held, restIn, MayFollow}
-use Rattle.marc_input.specs.Passing.{uncounted}
+use Rattle.marc_input.specs.Passing.{NoMark, uncounted}
 use Rattle.marc_input.specs.Cuts.{NextTo}
 use Rattle.output.specs.declared.pending.Pending.{Pending}
 use Rattle.output.specs.declared.pending.Pending.the-variants.{Bytes, Failed as NotWritten}
@@ -32,7 +32,7 @@ Stands room Failed = Unit {0}
 
 -- ---- what was cut off
 
--- A record that was found lies in a buffer of so many bytes, and so do those that are not used yet.
+-- A record that was found lies in a buffer of so many bytes.
 abbrev pub CutIn : ℕ → Cut → Type 0
 CutIn room (Whole start rest) = (start ≤ rest .at) × (rest .at ≤ room)
 CutIn room (TooLong rest) = Unit {0}
@@ -52,6 +52,10 @@ pub record GoesOn (text : List ℕ) (rest : Rest) (before : List ℕ) (used : �
 -- Nothing is said, and nothing comes any more.
 abbrev pub StopsAt : (before : List ℕ) → ℕ → Turn → List ℕ → Type 0
 StopsAt before used turn after = (turn ≡ Stop used) × (after ≡ before)
+
+-- Where no mark stands in the bytes that are not used yet no whole record does, and it has to wait for more.
+abbrev pub Waits : List ℕ → Rest → Type 0
+Waits buffer rest = NoMark (restIn buffer rest)
 
 -- The input is over, or cannot be counted.
 pub data Over (input : List ℕ) : Type 0 where
@@ -77,11 +81,11 @@ module _ (heading absent : ℕ) (ks : List Known) where
 
   -- One turn: it goes on with the bytes behind the record, or the input is over. A write fails for want of room alone, but for that of what stood in
   -- the buffer before it waits.
-  abbrev pub TurnBy : Type 0 → ℕ → (buffer : List ℕ) → Rest → (before : List ℕ) → ℕ → Turn → (buffer′ after : List ℕ) → Type 0
-  TurnBy Waits k buffer rest before used (Go now standing) buffer′ after = Answered (λ text. text) (TextOf k buffer rest now buffer′) Waits before used standing after
-  TurnBy Waits k buffer rest before used (Stop standing) buffer′ after = Answered (λ text. text) (NoText buffer rest) Waits before used standing after
-  TurnBy Waits k buffer rest before used Failed buffer′ after =
-      (Waits → used ≡ 0) → Unanswered (λ text. text) (λ text. (now : Rest) × TextOf k buffer rest now buffer′ text) before used
+  abbrev pub TurnBy : ℕ → (buffer : List ℕ) → Rest → (before : List ℕ) → ℕ → Turn → (buffer′ after : List ℕ) → Type 0
+  TurnBy k buffer rest before used (Go now standing) buffer′ after = Answered (λ text. text) (TextOf k buffer rest now buffer′) (Waits buffer rest) before used standing after
+  TurnBy k buffer rest before used (Stop standing) buffer′ after = Answered (λ text. text) (NoText buffer rest) (Waits buffer rest) before used standing after
+  TurnBy k buffer rest before used Failed buffer′ after =
+      (Waits buffer rest → used ≡ 0) → Unanswered (λ text. text) (λ text. (now : Rest) × TextOf k buffer rest now buffer′ text) before used
 
   -- ---- turn after turn
 

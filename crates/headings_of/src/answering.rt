@@ -5,8 +5,8 @@ ghost use lib.ListN.{length};
 ghost use Rattle.marc.specs.Known.{knownIn};
 ghost use Rattle.known_strings.specs.Checks.{CheckedAs};
 ghost use Rattle.lines.specs.Lines.{lineRoom};
-ghost use Rattle.marc_input.specs.Rests.{Held, restIn};
-ghost use Rattle.marc_input.specs.Passing.{NoMark};
+ghost use Rattle.marc_input.specs.Rests.{Held};
+ghost use Rattle.marc_input.specs.Passing.{uncounted};
 ghost use Rattle.marc_input.specs.Cuts.{mostBytes};
 ghost use Rattle.headings_of.specs.Turns.{CutIn, goOn, CutSaid, TurnBy, TurnsBy};
 use crate::say::say_record;
@@ -88,7 +88,7 @@ fn take_turn(
 ) -> Turn
     requires { ⌜ CheckedAs (now text) (now ends) (now numbers) (given .absent) (given .checked) ⌝ }
     requires { ⌜ Held (now buffer) rest × (mostBytes < length (now buffer)) × (used ≤ length (now out)) × (lineRoom ≤ length (now out)) ⌝ }
-    ensures { λ r. ⌜ TurnBy (given .heading) (given .absent) (knownIn (now (text .entry)) (now (ends .entry)) (now (numbers .entry))) (NoMark (restIn (now (buffer .entry)) rest)) k (now (buffer .entry)) rest (now (out .entry)) used r (now (buffer .exit)) (now (out .exit)) ⌝ }
+    ensures { λ r. ⌜ TurnBy (given .heading) (given .absent) (knownIn (now (text .entry)) (now (ends .entry)) (now (numbers .entry))) k (now (buffer .entry)) rest (now (out .entry)) used r (now (buffer .exit)) (now (out .exit)) ⌝ }
 {
     let mark = find_mark(buffer, rest.at, rest.end);
     match settle(out, used, must_write(mark, rest.end, used)) {
@@ -111,7 +111,7 @@ pub fn answer_all(
 ) -> Turn
     requires { ⌜ CheckedAs (now text) (now ends) (now numbers) (given .absent) (given .checked) ⌝ }
     requires { ⌜ (mostBytes < length (now buffer)) × (lineRoom ≤ length (now out)) ⌝ }
-    ensures { λ r. ⌜ TurnsBy (given .heading) (given .absent) (knownIn (now (text .entry)) (now (ends .entry)) (now (numbers .entry))) 18446744073709551615 (now (buffer .exit)) (now (out .entry)) r (now (out .exit)) ⌝ }
+    ensures { λ r. ⌜ TurnsBy (given .heading) (given .absent) (knownIn (now (text .entry)) (now (ends .entry)) (now (numbers .entry))) uncounted (now (buffer .exit)) (now (out .entry)) r (now (out .exit)) ⌝ }
 {
     let mut turn = Turn::Go(
         Rest {

@@ -4,7 +4,9 @@ ghost use Prim.Native.Nat.{_*_, _≤_, _<_};
 ghost use lib.ListN.{length};
 ghost use Rattle.marc.specs.Known.{knownIn};
 ghost use Rattle.lines.specs.Lines.{lineRoom};
+ghost use Rattle.marc_input.specs.Passing.{uncounted};
 ghost use Rattle.marc_input.specs.Cuts.{mostBytes};
+ghost use Rattle.headings_of.specs.Rooms.{listRoom};
 ghost use Rattle.headings_of.specs.Turns.{TurnsBy, EndingBy, Stands};
 
 mod answering;
@@ -44,7 +46,7 @@ fn answer_listed(
     out: &mut [u8],
 ) -> Turn
     requires { ⌜ (mostBytes < length (now buffer)) × (lineRoom ≤ length (now out)) ⌝ }
-    ensures { λ r. ⌜ TurnsBy heading absent (knownIn (now (text .entry)) (now (ends .entry)) (now (numbers .entry))) 18446744073709551615 (now (buffer .exit)) (now (out .entry)) r (now (out .exit)) ⌝ }
+    ensures { λ r. ⌜ TurnsBy heading absent (knownIn (now (text .entry)) (now (ends .entry)) (now (numbers .entry))) uncounted (now (buffer .exit)) (now (out .entry)) r (now (out .exit)) ⌝ }
 {
     let checked = check_list(text, ends, numbers, absent);
     let given = Given {
@@ -110,7 +112,7 @@ fn finish(turn: Turn, out: &[u8])
 
 // By a list's file that was read whole.
 fn serve_list(file: &[u8])
-    requires { ⌜ length (now file) < 1048576 ⌝ }
+    requires { ⌜ length (now file) < listRoom ⌝ }
 {
     let mut text = list_bytes();
     let mut ends = list_ends();

@@ -17,7 +17,8 @@ pub record Prepared (Waits : Type 0) (before : List ℕ) (used gone left : ℕ) 
   pub stays : (Waits → used ≡ 0) → left ≡ used
 
 -- LAW: waiting told in other words
-pub prepared-as : {Waits Other : Type 0} {before : List ℕ} {used gone left : ℕ} → (Waits → Other) → (Other → Waits) → Prepared Waits before used gone left → Prepared Other before used gone left
+pub prepared-as : {Waits Other : Type 0} {before : List ℕ} {used gone left : ℕ} → (Waits → Other) → (Other → Waits)
+    → Prepared Waits before used gone left → Prepared Other before used gone left
 prepared-as to from ready = record { passed = ready .passed; first = λ o. ready .first (from o); stays = λ idle. ready .stays (λ w. idle (to w)) }
 
 module _ (at end : ℕ) (before : List ℕ) (used : ℕ) (inside : used ≤ length before) where

@@ -6,6 +6,7 @@ use native.Mathlib.Omega.{arith}
 use denote.Ref.{now}
 use lib.ListN.{length}
 use Rattle.marc.specs.Known.{knownIn}
+use Rattle.marc_input.specs.Passing.{uncounted}
 use Rattle.headings_of.specs.Turns.{TurnsBy}
 use Rattle.headings_of.proofs.Following.{turns-none, turns-more, turns-stop, turns-failed}
 use Rattle.headings_of.proofs.answering.answer_all.Statement.{statement}
@@ -13,10 +14,10 @@ use Rattle.headings_of.proofs.answering.answer_all.Tie as tie
 
 abbrev Inv-loop : tie.InvT-loop
 Inv-loop buffer₀ text ends numbers given out₀ turn₀ k₀ buffer out turn k =
-    (length buffer ≡ length buffer₀) × (length out ≡ length out₀) × (k ≤ 18446744073709551615) × TurnsBy (given .heading) (given .absent) (knownIn text ends numbers) k buffer out₀ turn out
+    (length buffer ≡ length buffer₀) × (length out ≡ length out₀) × (k ≤ uncounted) × TurnsBy (given .heading) (given .absent) (knownIn text ends numbers) k buffer out₀ turn out
 
 abbrev μ-loop : tie.MeasureT-loop
-μ-loop buffer₀ text ends numbers given out₀ turn₀ k₀ buffer out turn k = 18446744073709551615 - k
+μ-loop buffer₀ text ends numbers given out₀ turn₀ k₀ buffer out turn k = uncounted - k
 
 loop-holds : tie.Need-loop-holds Inv-loop μ-loop
 loop-holds c =
@@ -83,7 +84,7 @@ loop-again c =
       turned .kept .1 .0 ∙ loop .inv .0,
       turned .kept .1 .1 .1 .1 .1 .1 .1 .0 ∙ loop .inv .1,
       omega arith,
-      turns-more _ _ known (loop .k) before (loop .buffer) (loop .out) (at .0 .0) (at .0 .1 .0) told _ (turned .last .1 .0) (turned .last .1 .1 .1 .1 .1 .1 .1 .0) (turned .result) (turned .ensures),
+      turns-more _ _ known (loop .k) before (loop .buffer) (loop .out) (at .0 .0) (at .0 .1 .0) told (turned .last .1 .0) (turned .last .1 .1 .1 .1 .1 .1 .1 .0) (turned .result) (turned .ensures),
     )
 
 same-length-5 : tie.Need-same-length-5 Inv-loop μ-loop
@@ -96,7 +97,7 @@ returns-3 : tie.Need-returns-3 Inv-loop μ-loop
 returns-3 c =
     let s = c .before .before .before .before .before .before .before in
     let loop = c .before .loop in
-    let all : loop .k ≡ 18446744073709551615 = omega (arith, loop .inv .2) in
+    let all : loop .k ≡ uncounted = omega (arith, loop .inv .2) in
     subst (λ n. TurnsBy (s .args .given .heading) (s .args .given .absent) (knownIn (now (s .args .text)) (now (s .args .ends)) (now (s .args .numbers))) n (loop .buffer) (now (s .args .out)) (loop .turn) (loop .out)) all (loop .inv .3)
 
 pub answer-all-spec : {M : Type 1} → statement M

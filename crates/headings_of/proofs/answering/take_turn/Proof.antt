@@ -4,10 +4,9 @@ use mathlib.Core.Path.{subst}
 use native.Mathlib.Omega.{arith}
 use denote.Ref.{now}
 use Rattle.marc.specs.Known.{knownIn}
-use Rattle.marc_input.specs.Rests.{restIn}
-use Rattle.marc_input.specs.Passing.{NoMark}
 use Rattle.output.specs.Pendings.{Settled}
 use Rattle.output.proofs.Turning.{Prepared, prepared-as, ready-by, failed-by}
+use Rattle.headings_of.specs.Turns.{Waits}
 use Rattle.headings_of.proofs.Taking.{mark-at-end, next-in, turn-taken}
 use Rattle.headings_of.proofs.answering.take_turn.Statement.{statement}
 use Rattle.headings_of.proofs.answering.take_turn.Tie as tie
@@ -28,7 +27,7 @@ next-record-requires : tie.Need-next-record-requires
 next-record-requires c κs = search needs
 
 -- what stood in the buffer is handed over, or it stays
-ready : (c : tie.After-known-told) → let a = c .before .before .before .before .before .before .before .before .before .before .before .before .before .args in let left = c .before .left .given .0 in Prepared (NoMark (restIn (now (a .buffer)) (a .rest))) (now (a .out)) (a .used) (left .0) (left .1 .0)
+ready : (c : tie.After-known-told) → let a = c .before .before .before .before .before .before .before .before .before .before .before .before .before .args in let left = c .before .left .given .0 in Prepared (Waits (now (a .buffer)) (a .rest)) (now (a .out)) (a .used) (left .0) (left .1 .0)
 ready c =
     let s = c .before .before .before .before .before .before .before .before .before .before .before .before .before in
     let a = s .args in
@@ -61,7 +60,7 @@ returns c =
     let next = c .before .before .before .before .before .before .before .next-record in
     let answered = c .before .before .answer-next in
     let known = knownIn (now (a .text)) (now (a .ends)) (now (a .numbers)) in
-    turn-taken _ _ known (a .k) (now (a .buffer)) (a .rest) _ _ (now (a .out)) (a .used) _ _ (s .pre .1 .2) (ready (c .before .before .before .before .before .before .before .before .before)) _ (next .result) (next .ensures) (answered .result) (answered .ensures)
+    turn-taken _ _ known (a .k) (now (a .buffer)) (a .rest) _ (now (a .out)) (a .used) _ _ (s .pre .1 .2) (ready (c .before .before .before .before .before .before .before .before .before)) _ (next .result) (next .ensures) (answered .result) (answered .ensures)
 
 same-length-3 : tie.Need-same-length-3
 same-length-3 c = search needs
