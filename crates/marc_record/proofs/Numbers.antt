@@ -1,8 +1,8 @@
 -- Digits read one by one, and numbers of four and five digits.
-use mathlib.Core.Path.{_≡_, ap, _∙_}
+use mathlib.Core.Path.{_≡_, refl, ap, _∙_}
 use mathlib.Core.List.{List}
 use mathlib.Core.Bool.{true, false}
-use Prim.Native.Nat.{ℕ, suc, _+_, _*_, _-_, _≤_, _<_}
+use Prim.Native.Nat.{ℕ, zero, suc, _+_, _*_, _-_, _≤_, _<_}
 use native.Mathlib.Numerals.{add-one}
 use native.Mathlib.Omega.{arith}
 use borrow.Author.Tests.{leb-true}
@@ -34,17 +34,23 @@ digits-none r at k n e = let z : n - k ≡ 0 = omega arith in rw z
 pub digit-range : (b : ℕ) → isDigit b ≡ true → (48 ≤ b) × (b ≤ 57)
 digit-range b e = (leb-true 48 b (and-left (leb 48 b) (leb b 57) e), leb-true b 57 (and-right (leb 48 b) (leb b 57) e))
 
+-- LAW: each of the bytes is a digit
+pub is-digit-in : (r : List ℕ) (at n k i : ℕ) → digitsAt r at n ≡ true → k < n → i ≡ at + k → isDigit (getD r i 0) ≡ true
+unfolding digitsAt
+is-digit-in r at zero k i e l q = absurd (omega arith)
+is-digit-in r at (suc n) zero i e l q =
+    let here : i ≡ at = omega arith in
+    ap (λ i. isDigit (getD r i 0)) here ∙ and-left (isDigit (getD r at 0)) (digitsAt r (at + 1) n) e
+is-digit-in r at (suc n) (suc k) i e l q = is-digit-in r (at + 1) n k i (and-right (isDigit (getD r at 0)) (digitsAt r (at + 1) n) e) (omega arith) (omega arith)
+
 -- ---- numbers of four and five digits
 
 -- a digit and those behind it
 digit-first : (r : List ℕ) (at n : ℕ) → digitsAt r at (suc n) ≡ true → (48 ≤ getD r at 0) × (getD r at 0 ≤ 57) × (digitsAt r (at + 1) n ≡ true)
 unfolding digitsAt
 digit-first r at n e =
-    let b = and-left (isDigit (getD r at 0)) (digitsAt r (at + 1) n) e in (
-      leb-true 48 (getD r at 0) (and-left (leb 48 (getD r at 0)) (leb (getD r at 0) 57) b),
-      leb-true (getD r at 0) 57 (and-right (leb 48 (getD r at 0)) (leb (getD r at 0) 57) b),
-      and-right (isDigit (getD r at 0)) (digitsAt r (at + 1) n) e,
-    )
+    let b = digit-range (getD r at 0) (and-left (isDigit (getD r at 0)) (digitsAt r (at + 1) n) e) in
+    (b .0, b .1, and-right (isDigit (getD r at 0)) (digitsAt r (at + 1) n) e)
 
 -- LAW: the bytes put together are as much more than the number that they write as 48 at each digit makes
 module _ (r : List ℕ) (at a b c d : ℕ) (p : a ≡ getD r at 0) (q : b ≡ getD r (at + 1) 0) (s : c ≡ getD r (at + 2) 0) (t : d ≡ getD r (at + 3) 0) where
@@ -63,14 +69,17 @@ module _ (r : List ℕ) (at a b c d : ℕ) (p : a ≡ getD r at 0) (q : b ≡ ge
       let h4 = digit-first r (at + 1 + 1 + 1) 0 (h3 .2) in
       (omega (arith, p, q, third, fourth, h1 .0, h2 .0, h3 .0, h4 .0), omega (arith, h1 .1, h2 .1, h3 .1, h4 .1))
 
-  pub five-is : (e : ℕ) → e ≡ getD r (at + 4) 0 → digitsAt r at 5 ≡ true → ((((a * 10 + b) * 10 + c) * 10 + d) * 10 + e ≡ decimalAt r at 5 + 533328) × (decimalAt r at 5 ≤ 99999)
-  unfolding valueAt
-  five-is e u h =
-      let i : at + 4 ≡ at + 1 + 1 + 1 + 1 = omega arith in
-      let fifth : e ≡ getD r (at + 1 + 1 + 1 + 1) 0 = u ∙ ap (λ i. getD r i 0) i in
-      let h1 = digit-first r at 4 h in
-      let h2 = digit-first r (at + 1) 3 (h1 .2) in
-      let h3 = digit-first r (at + 1 + 1) 2 (h2 .2) in
-      let h4 = digit-first r (at + 1 + 1 + 1) 1 (h3 .2) in
-      let h5 = digit-first r (at + 1 + 1 + 1 + 1) 0 (h4 .2) in
-      (omega (arith, p, q, third, fourth, fifth, h1 .0, h2 .0, h3 .0, h4 .0, h5 .0), omega (arith, h1 .1, h2 .1, h3 .1, h4 .1, h5 .1))
+-- LAW: and with a fifth
+pub five-is : (r : List ℕ) (at : ℕ) → decimalAt r at 4 * 10 + (getD r (at + 4) 0 - 48) ≡ decimalAt r at 5
+unfolding valueAt
+five-is r at =
+    let i : at + 4 ≡ at + 1 + 1 + 1 + 1 = omega arith in
+    omega (arith, ap (λ i. getD r i 0) i)
+
+-- LAW: digits without the last
+pub digits-fewer : (r : List ℕ) (at n : ℕ) → digitsAt r at (suc n) ≡ true → digitsAt r at n ≡ true
+unfolding digitsAt
+digits-fewer r at zero e = refl
+digits-fewer r at (suc n) e =
+    let first = isDigit (getD r at 0) in
+    rw (and-left first (digitsAt r (at + 1) (suc n)) e) (digits-fewer r (at + 1) n (and-right first (digitsAt r (at + 1) (suc n)) e))

@@ -60,10 +60,5 @@ pub fn five(bytes: &[u8], at: usize) -> usize
     requires { ⌜ (at + 5 ≤ length (now bytes)) × (digitsAt (now bytes) at 5 ≡ true) ⌝ }
     ensures { λ r. ⌜ (r ≡ decimalAt (now (bytes .entry)) at 5) × (r ≤ 99999) ⌝ }
 {
-    let a = wide(bytes[at]);
-    let b = wide(bytes[at + 1]);
-    let c = wide(bytes[at + 2]);
-    let d = wide(bytes[at + 3]);
-    let e = wide(bytes[at + 4]);
-    (((a * 10 + b) * 10 + c) * 10 + d) * 10 + e - ZERO * 11111
+    four(bytes, at) * 10 + digit(bytes[at + 4])
 }
