@@ -1,4 +1,4 @@
-//! The heading of an exchange record, ISO 2709 as MARC 21 has it.
+//! The heading of a MARC 21 record in the frame of ISO 2709.
 
 use super::known::Checked;
 use crate::{Known, WideRefusal, RECORD_NODES};
