@@ -1,2 +1,3 @@
--- Laws that the calls cite.
+-- Laws that the calls cite, and those on runs of pairs.
 pub mod Checks
+pub mod InFile

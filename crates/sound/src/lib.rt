@@ -1,4 +1,6 @@
 // Whether bytes are a table file.
+mod runs;
+
 ghost use mathlib.Core.Path.{_≡_};
 ghost use mathlib.Core.List.{[], _∷_};
 ghost use mathlib.Core.Bool.{not};
@@ -6,8 +8,11 @@ ghost use Prim.Native.Nat.{_≤_};
 ghost use lib.ListN.{length};
 ghost use Rattle.meaning.specs.File.{symbolCount, pairCount, total, aritiesIn, pairsIn};
 ghost use Rattle.meaning.specs.Refusals.{row, at0, row1-offsets, row3, row4, first, tableRows};
+ghost use Rattle.meaning.specs.Tables.{pairStart};
+ghost use Rattle.table.specs.Keys.{keyBefore};
 ghost use Rattle.table.specs.Places.{placeIn};
 ghost use Rattle.sound.specs.Found.{found};
+use crate::runs::good_until;
 use refusal::Refusal;
 use table::number::number_at;
 use table::rules::Place;
@@ -39,14 +44,25 @@ fn well_placed(file: &[u8], symbols: usize, pairs: usize) -> bool
     total == file.len()
 }
 
+// The key of the pair before pair k, which begins at byte `at`; 0 before the first.
+fn key_before(file: &[u8], at: usize, k: usize) -> u32
+    requires { ⌜ (k ≤ pairCount (now file)) × (at ≡ pairStart (now file) k) × (at ≤ length (now file)) ⌝ }
+    ensures { λ r. ⌜ r ≡ keyBefore (pairsIn (now (file .entry))) k ⌝ }
+{
+    if k == 0 {
+        return 0;
+    }
+    key(number_at(file, at - 6), number_at(file, at - 4))
+}
+
 // The first pair that may not be listed where it stands.
 fn bad_pair(file: &[u8], arities: &[u8], pairs: usize) -> Place
     requires { ⌜ (now arities ≡ aritiesIn (now file)) × (pairs ≡ pairCount (now file)) × (total (symbolCount (now file)) pairs ≤ length (now file)) ⌝ }
     ensures { λ r. ⌜ row4 (aritiesIn (now (file .entry))) (pairsIn (now (file .entry))) ≡ row 4 (placeIn r) ⌝ }
 {
-    let mut previous: u32 = 0;
-    let mut at = 10 + arities.len();
-    let mut k: usize = 0;
+    let mut k = good_until(file, arities, pairs);
+    let mut at = 10 + arities.len() + 6 * k;
+    let mut previous = key_before(file, at, k);
     while k < pairs {
         let lower = number_at(file, at);
         let higher = number_at(file, at + 2);

@@ -1,18 +1,16 @@
 -- Where a file's lists stand in its bytes: the symbols' arities after the header, then the pairs, six bytes each. So the rules for pairs can
 -- be tested on the numbers as they are read.
-use mathlib.Core.Path.{_≡_, ap, subst, _∙_}
+use mathlib.Core.Path.{_≡_, ap, subst}
 use mathlib.Core.List.{List}
 use mathlib.Core.Bool.{_&&_, not}
-use Prim.Native.Nat.{ℕ, zero, suc, _+_, _-_, _*_, _≤_, _<_}
-use native.Mathlib.Nat.{not-suc-le-zero}
+use Prim.Native.Nat.{ℕ, zero, suc, _+_, _-_, _<_}
 use native.Mathlib.Numerals.{add-one}
 use native.Mathlib.Omega.{arith}
 use lib.Dec.{ltb}
-use lib.ListN.{length, getD, take, drop, length-take, length-drop}
-use lib.Seq.{getD-take, getD-drop}
+use lib.ListN.{getD, take, drop}
 use Rattle.theory.specs.Pairs.{pair}
 use Rattle.meaning.specs.File.{number, symbolCount, pairCount, pairAt, pairsAt, aritiesIn, pairsFrom, pairsIn}
-use Rattle.meaning.specs.Tables.{arityByte, pairStart}
+use Rattle.meaning.specs.Tables.{pairStart}
 use Rattle.meaning.specs.Refusals.{unsound, badPair}
 use Rattle.meaning.proofs.Bytes.{pair-in}
 use Rattle.table.specs.Keys.{pairKey, keyBefore}
@@ -37,7 +35,8 @@ module _ (file : List ℕ) (bytes : (i : ℕ) → getD file i 0 < 256) where
   short-from (suc n) i zero = number-small (i + 2)
   short-from (suc n) i (suc j) = short-from n (i + 6) j
 
-  short-in : (j : ℕ) → Short (getD (pairsIn file) j (pair 0 0 0))
+  -- LAW: a pair of the file has numbers of two bytes
+  pub short-in : (j : ℕ) → Short (getD (pairsIn file) j (pair 0 0 0))
   unfolding pairsIn
   short-in = short-from (pairCount file) (pairsAt (symbolCount file))
 

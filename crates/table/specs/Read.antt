@@ -1,17 +1,20 @@
 -- What the code reads of a table file, in the meaning's words.
 use mathlib.Core.Path.{_≡_}
 use mathlib.Core.List.{List}
-use Prim.Native.Nat.{ℕ}
+use Prim.Native.Nat.{ℕ, _≤_}
 use Rattle.theory.specs.Pairs.{Pair as ListedPair, pair}
+use Rattle.meaning.specs.Limits.{mostSymbols}
 use Rattle.meaning.specs.File.{pairCount, tableIn}
 use Rattle.meaning.specs.Refusals.{SoundFile}
 use Rattle.table.specs.declared.read.Pair.{Pair}
+use Rattle.table.specs.declared.read.Counts.{Counts}
 
 abbrev pub pairIn : Pair → ListedPair
 pairIn p = pair (p .lower) (p .higher) (p .degree)
 
--- The file is a table with these counts, which were read before.
-pub record Counted (file : List ℕ) (symbols pairs : ℕ) : Type 0 where
+-- The file is a table with these counts.
+pub record Counted (file : List ℕ) (counts : Counts) : Type 0 where
   pub sound : SoundFile file
-  pub symbols-are : symbols ≡ tableIn file .size
-  pub pairs-are : pairs ≡ pairCount file
+  pub symbols-are : counts .symbols ≡ tableIn file .size
+  pub pairs-are : counts .pairs ≡ pairCount file
+  pub few : counts .symbols ≤ mostSymbols

@@ -6,7 +6,7 @@ ghost use Rattle.theory.specs.Pairs.{pair};
 ghost use Rattle.meaning.specs.Limits.{mostSymbols};
 ghost use Rattle.meaning.specs.File.{pairCount, pairAt, pairsIn, tableIn};
 ghost use Rattle.meaning.specs.Refusals.{SoundFile};
-ghost use Rattle.table.specs.Read.{pairIn};
+ghost use Rattle.table.specs.Read.{pairIn, Counted};
 use crate::number::number_at;
 
 // Two symbols, the lower first, and their degree.
@@ -29,6 +29,22 @@ pub fn pair_count(file: &[u8]) -> u16
     ensures { λ r. ⌜ r ≡ pairCount (now (file .entry)) ⌝ }
 {
     number_at(file, 2)
+}
+
+// How many symbols and pairs a table has, read once for one who asks often.
+pub struct Counts {
+    pub symbols: u16,
+    pub pairs: u16,
+}
+
+pub fn counts_of(file: &[u8]) -> Counts
+    requires { ⌜ SoundFile (now file) ⌝ }
+    ensures { λ r. ⌜ Counted (now (file .entry)) r ⌝ }
+{
+    Counts {
+        symbols: symbol_count(file),
+        pairs: pair_count(file),
+    }
 }
 
 pub fn arity(file: &[u8], symbol: u16) -> u8

@@ -9,8 +9,10 @@ ghost use Rattle.table.specs.Places.{placeIn};
 ghost use Rattle.table.specs.Keys.{keyOf};
 use sets::SymbolSet;
 
-// A table has no more symbols than a set has room for.
-const MOST_SYMBOLS: usize = SymbolSet::ROOM as usize;
+// A table has no more symbols than a set has room for, and no more pairs than this.
+pub const MOST_SYMBOLS: usize = SymbolSet::ROOM as usize;
+
+pub const MOST_PAIRS: usize = 8192;
 
 pub enum Place {
     At(usize),
@@ -27,7 +29,7 @@ pub fn allowed(symbols: usize, pairs: usize) -> bool
     if symbols > MOST_SYMBOLS {
         return false;
     }
-    pairs <= 8192
+    pairs <= MOST_PAIRS
 }
 
 // The first symbol whose arity is too high.
@@ -53,7 +55,7 @@ pub fn key(lower: u16, higher: u16) -> u32
 }
 
 // The highest degree that a pair may have: 1000 is a symbol's with itself alone.
-const LISTED_TOP: u16 = 999;
+pub const LISTED_TOP: u16 = 999;
 
 // Whether a pair may be listed after one with the key `previous`; 0 stands before every pair.
 pub fn may_follow(arities: &[u8], previous: u32, lower: u16, higher: u16, degree: u16) -> bool
