@@ -2,9 +2,8 @@
 ghost use mathlib.Core.Path.{_≡_};
 ghost use Prim.Native.Nat.{_+_, _*_, _≤_};
 ghost use lib.ListN.{length};
-ghost use Rattle.theory.specs.Pairs.{pair};
 ghost use Rattle.meaning.specs.Limits.{mostSymbols, mostPairs};
-ghost use Rattle.meaning.specs.File.{bytesOf, header, pairBytes};
+ghost use Rattle.meaning.specs.File.{bytesOf, header};
 ghost use Rattle.meaning.specs.Over.{over};
 ghost use Rattle.layout.specs.Bytes.{numbersBytes};
 
@@ -15,16 +14,6 @@ pub fn put_number(output: &mut [u8], at: usize, n: u16)
 {
     output[at] = (n % 256) as u8;
     output[at + 1] = (n / 256) as u8;
-}
-
-// A pair's six bytes.
-pub fn put_pair(output: &mut [u8], at: usize, lower: u16, higher: u16, degree: u16)
-    requires { ⌜ at + 6 ≤ length (now output) ⌝ }
-    ensures { λ _. ⌜ now (output .exit) ≡ over (now (output .entry)) at (pairBytes (pair lower higher degree)) ⌝ }
-{
-    put_number(output, at, lower);
-    put_number(output, at + 2, higher);
-    put_number(output, at + 4, degree);
 }
 
 pub fn put_header(output: &mut [u8], symbols: usize, pairs: usize)

@@ -7,3 +7,4 @@ pub mod Tied
 mod Enter
 mod Loop
 mod Again
+mod Room

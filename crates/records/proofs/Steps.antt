@@ -1,86 +1,72 @@
--- What the writer's steps come to: the records passed one by one, their bytes put one behind the other, and both behind the front.
+-- What the writer's steps come to: the records' numbers put one behind the other, and what the writer on numbers makes of them.
 use mathlib.Core.Path.{_≡_, refl, sym, ap, ap₂, _∙_}
-use mathlib.Core.List.{List}
+use mathlib.Core.List.{List, [], _∷_, _++_}
 use Prim.Native.Nat.{ℕ, _+_, _*_, _≤_, _<_}
+use native.Mathlib.Numerals.{add-one}
+use native.Mathlib.Nat.{zero-add}
 use native.Mathlib.Omega.{arith}
-use lib.ListN.{length, getD, take}
-use lib.Seq.{take-length}
-use Rattle.theory.specs.Pairs.{Pair as ListedPair}
-use Rattle.meaning.specs.File.{pairBytes, pairsBytes}
+use lib.ListN.{length, getD, set, take}
+use lib.Seq.{length-take-le, take-suc, take-length, take-at}
+use Rattle.theory.specs.Pairs.{Pair as ListedPair, pair}
+use Rattle.meaning.specs.Limits.{mostPairs}
+use Rattle.meaning.specs.File.{numbersOf}
 use Rattle.meaning.specs.Over.{over}
-use Rattle.meaning.specs.Calls.{laterOutput}
-use Rattle.meaning.proofs.Over.{over-none}
-use Rattle.refusal.specs.Told.{told}
+use Rattle.meaning.proofs.Over.{length-over, over-one, over-two, over-then, over-front}
 use Rattle.table.specs.Read.{pairIn}
 use Rattle.table.specs.declared.read.Pair.{Pair}
-use Rattle.writer.specs.Passing.{passOf, passedTo, soundCount, countedAnswer, begunOutput}
-use Rattle.writer.specs.Said.{said}
-use Rattle.writer.specs.declared.pairs.Passed.{Passed}
-use Rattle.writer.specs.declared.Writing.{Writing}
-use Rattle.writer.specs.declared.Writing.the-variants.{Written, Refused}
-use Rattle.layout.proofs.Bytes.{pair-more}
-use Rattle.writer.proofs.Passing.{pass-next}
-use Rattle.writer.proofs.Rows.{given-room}
-use Rattle.writer.proofs.Writer.{passedAnswer, passedFront, answer-written, refused-later, written-later}
-use Rattle.records.specs.Records.{listed, none, AllShort, dueOf, WriteRecords}
-use Rattle.records.proofs.Listing.{length-listed, listed-at, short-listed}
+use Rattle.writer.specs.Laid.{Laid}
+use Rattle.records.specs.Records.{listed, none}
+use Rattle.records.proofs.Listing.{length-listed, listed-at}
 
--- ---- none, and one record more
+-- ---- the numbers of pairs
 
-pub none-passed : (arities : List ℕ) (pairs : List ListedPair) → record { count = 0; key = 0 } ≡ passedTo arities pairs 0
-unfolding passedTo
-none-passed arities pairs = refl
+pub over-three : (out : List ℕ) (at a b c : ℕ) → at + 3 ≤ length out → set (set (set out at a) (at + 1) b) (at + 2) c ≡ over out at (a ∷ b ∷ c ∷ [])
+over-three out at a b c l =
+    ap (λ xs. set xs (at + 2) c) (over-two out at a b (omega arith))
+    ∙ over-one (over out at (a ∷ b ∷ [])) (at + 2) c (omega (arith, length-over out at (a ∷ b ∷ []) (omega arith)))
+    ∙ over-then out at (a ∷ b ∷ []) 2 (c ∷ []) refl (omega arith)
 
-module _ (records : List Pair) (k : ℕ) where
-  pub record-passed : (arities : List ℕ) {passed next : Passed} → passed ≡ passedTo arities (listed records) k
-      → next ≡ passOf arities passed (pairIn (getD records k none)) → next ≡ passedTo arities (listed records) (k + 1)
-  record-passed arities {passed} e f = pass-next arities (listed records) k e (f ∙ ap (passOf arities passed) (sym (listed-at records k)))
+pub length-numbersOf : (ps : List ListedPair) → length (numbersOf ps) ≡ 3 * length ps
+unfolding numbersOf
+length-numbersOf [] = refl
+length-numbersOf (pair l h d ∷ ps) = omega (arith, length-numbersOf ps)
 
-  pub record-put : k < length records → (out : List ℕ) (at : ℕ) → at + 6 * k ≤ length out → {mid end : List ℕ} → mid ≡ over out at (pairsBytes (take k (listed records)))
-      → end ≡ over mid (at + 6 * k) (pairBytes (pairIn (getD records k none))) → end ≡ over out at (pairsBytes (take (k + 1) (listed records)))
-  record-put l out at room e f =
+numbersOf-append : (ps qs : List ListedPair) → numbersOf (ps ++ qs) ≡ numbersOf ps ++ numbersOf qs
+unfolding numbersOf
+numbersOf-append [] qs = refl
+numbersOf-append (pair l h d ∷ ps) qs = ap (λ ns. l ∷ h ∷ d ∷ ns) (numbersOf-append ps qs)
+
+-- ---- one record more
+
+module _ (records : List Pair) (k : ℕ) (inside : k < length records) where
+  abbrev next : Pair
+  next = getD records k none
+
+  three-more : numbersOf (take k (listed records)) ++ (next .lower ∷ next .higher ∷ next .degree ∷ []) ≡ numbersOf (take (k + 1) (listed records))
+  unfolding numbersOf
+  three-more =
+      let ps = listed records in
+      sym (numbersOf-append (take k ps) (pairIn next ∷ []))
+      ∙ ap (λ p. numbersOf (take k ps ++ (p ∷ []))) (sym (listed-at records k))
+      ∙ ap numbersOf (sym (take-suc ps k (pair 0 0 0) (omega (arith, length-listed records))) ∙ ap (λ i. take i ps) (sym (add-one k)))
+
+  pub record-put : (out : List ℕ) → 3 * k ≤ length out → {mid end : List ℕ} → mid ≡ over out 0 (numbersOf (take k (listed records)))
+      → end ≡ over mid (3 * k) (next .lower ∷ next .higher ∷ next .degree ∷ []) → end ≡ over out 0 (numbersOf (take (k + 1) (listed records)))
+  record-put out room {mid} e f =
+      let three = next .lower ∷ next .higher ∷ next .degree ∷ [] in
+      let laid = numbersOf (take k (listed records)) in
+      let n : length laid ≡ 3 * k = omega (arith, length-numbersOf (take k (listed records)), length-take-le k (listed records) (omega (arith, length-listed records))) in
       f
-      ∙ ap₂ (λ m p. over m (at + 6 * k) (pairBytes p)) e (sym (listed-at records k))
-      ∙ pair-more out at (listed records) k (omega (arith, length-listed records)) room
+      ∙ ap₂ (λ m i. over m i three) e (sym (zero-add (3 * k)))
+      ∙ over-then out 0 laid (3 * k) three n (omega arith)
+      ∙ ap (over out 0) three-more
 
 -- ---- all of them
 
-module _ (arities : List ℕ) (records : List Pair) where
-  pub all-passed : {passed : Passed} → passed ≡ passedTo arities (listed records) (length records) → passed .count ≡ soundCount arities (listed records)
-  unfolding soundCount
-  all-passed e = ap (λ p. p .count) (e ∙ ap (passedTo arities (listed records)) (sym (length-listed records)))
-
-pub due-most : (begun : Writing) (pairs : ℕ) → dueOf begun pairs ≤ pairs
-due-most (Written n) pairs = omega arith
-due-most (Refused why) pairs = omega arith
-
--- what is due fits behind the front
-pub due-room : (arities : List ℕ) (pairs sound room : ℕ) (begun : Writing) → said begun ≡ countedAnswer arities pairs sound room
-    → 0 < dueOf begun pairs → 10 + length arities + 6 * dueOf begun pairs ≤ room
-due-room arities pairs sound room (Written n) e l = given-room arities pairs sound room n e
-due-room arities pairs sound room (Refused why) e l = absurd (omega arith)
-
-module _ (arities : List ℕ) (records : List Pair) (output : List ℕ) (short : AllShort records) where
-  abbrev pairs : ℕ
-  pairs = length records
-
-  all-left : (begun : Writing) (mid end : List ℕ) → said begun ≡ passedAnswer arities (listed records) output → mid ≡ passedFront arities (listed records) output
-      → end ≡ over mid (10 + length arities) (pairsBytes (take (dueOf begun pairs) (listed records))) → end ≡ laterOutput arities (listed records) output
-  all-left (Written n) mid end a f e =
-      written-later arities (listed records) output (short-listed records short) n a
-      (e ∙ ap₂ (λ m ps. over m (10 + length arities) (pairsBytes ps)) f (ap (λ i. take i (listed records)) (sym (length-listed records)) ∙ take-length (listed records)))
-  all-left (Refused why) mid end a f e = e ∙ sym (over-none mid (10 + length arities)) ∙ f ∙ refused-later arities (listed records) output (short-listed records short) (told why) a
-
-  -- LAW: the front, and behind it what is due, make what the writer answers and leaves
-  pub all-written : (sound : ℕ) → sound ≡ soundCount arities (listed records) → (begun : Writing) (mid end : List ℕ)
-      → said begun ≡ countedAnswer arities pairs sound (length output) → mid ≡ begunOutput arities pairs sound output
-      → end ≡ over mid (10 + length arities) (pairsBytes (take (dueOf begun pairs) (listed records))) → WriteRecords arities records output begun end
-  all-written sound counted begun mid end a f e =
-      let answered = a ∙ same-counts (λ p s. countedAnswer arities p s (length output)) in
-      record {
-        answers = answered ∙ answer-written arities (listed records) output (short-listed records short);
-        leaves = all-left begun mid end answered (f ∙ same-counts (λ p s. begunOutput arities p s output)) e;
-      }
-    where
-      same-counts : {A : Type 0} (f : ℕ → ℕ → A) → f pairs sound ≡ f (length (listed records)) (soundCount arities (listed records))
-      same-counts f = ap₂ f (sym (length-listed records)) counted
+-- LAW: where all records are copied, the numbers begin with theirs
+pub all-laid : (records : List Pair) (out : List ℕ) (count : ℕ) → (3 * length records ≤ length out → count ≡ length records) → (numbers : List ℕ)
+    → numbers ≡ over out 0 (numbersOf (take count (listed records))) → (length (listed records) ≤ mostPairs → 3 * length records ≤ length out) → Laid numbers (listed records)
+all-laid records out count all numbers e room few =
+    let n : count ≡ length (listed records) = omega (arith, all (room few), length-listed records) in
+    let laid : numbers ≡ over out 0 (numbersOf (listed records)) = e ∙ ap (λ ps. over out 0 (numbersOf ps)) (ap (λ i. take i (listed records)) n ∙ take-length (listed records)) in
+    ap (take (3 * length (listed records))) (laid ∙ over-front out (numbersOf (listed records))) ∙ take-at (numbersOf (listed records)) _ (3 * length (listed records)) (length-numbersOf (listed records))

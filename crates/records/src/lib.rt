@@ -1,62 +1,71 @@
-// The table writer on pair records. A function over a slice of structs is proved by hand, step by step; so each here goes straight through or
-// is one plain loop, and every decision is made by a function on numbers.
+// The table writer on pair records: their numbers are copied to a list, and the writer on numbers does the rest. A function over a slice of
+// structs is proved by hand, step by step; so the functions here decide nothing but how much room the list has.
 ghost use mathlib.Core.Path.{_≡_};
-ghost use Prim.Native.Nat.{_+_, _*_, _<_, _≤_};
+ghost use mathlib.Core.List.{[], _∷_};
+ghost use Prim.Native.Nat.{_+_, _*_, _≤_};
 ghost use lib.ListN.{length, take};
-ghost use Rattle.meaning.specs.File.{pairsBytes};
+ghost use Rattle.meaning.specs.Limits.{mostPairs};
+ghost use Rattle.meaning.specs.File.{numbersOf};
 ghost use Rattle.meaning.specs.Over.{over};
-ghost use Rattle.writer.specs.Passing.{soundCount};
-ghost use Rattle.records.specs.Records.{listed, AllShort, dueOf, WriteRecords};
-use layout::put_pair;
+ghost use Rattle.records.specs.Records.{listed, WriteRecords};
 use table::read::Pair;
+use table::rules::MOST_PAIRS;
 use writer::Writing;
-use writer::begin;
-use writer::pairs::Passed;
-use writer::pairs::pass;
+use writer::write_first;
 
-// How many pairs, from the first on, may be listed as they stand.
-fn sound_records(arities: &[u8], pairs: &[Pair]) -> usize
-    ensures { λ r. ⌜ (r ≡ soundCount (now (arities .entry)) (listed (now (pairs .entry)))) × AllShort (now (pairs .entry)) ⌝ }
+// So many of the pairs fit into so much room, three numbers each.
+fn fitting(room: usize, pairs: usize) -> usize
+    ensures { λ r. ⌜ (r ≤ pairs) × (3 * r ≤ room) × (3 * pairs ≤ room → r ≡ pairs) ⌝ }
 {
-    let mut passed = Passed { count: 0, key: 0 };
-    let mut k = 0;
-    while k < pairs.len() {
-        let pair = pairs[k];
-        passed = pass(arities, passed, pair.lower, pair.higher, pair.degree);
-        k += 1;
-    }
-    passed.count
+    let most = room / 3;
+    if pairs < most { pairs } else { most }
 }
 
-// How many pairs are still to be put once the file is begun: none after a refusal.
-fn due(begun: Writing, pairs: usize) -> usize
-    ensures { λ r. ⌜ r ≡ dueOf begun pairs ⌝ }
+// A pair's three numbers, from number `at` on.
+fn put_three(numbers: &mut [u16], at: usize, lower: u16, higher: u16, degree: u16)
+    requires { ⌜ at + 3 ≤ length (now numbers) ⌝ }
+    ensures { λ _. ⌜ now (numbers .exit) ≡ over (now (numbers .entry)) at (lower ∷ higher ∷ degree ∷ []) ⌝ }
 {
-    match begun {
-        Writing::Written(_) => pairs,
-        Writing::Refused(_) => 0,
-    }
+    numbers[at] = lower;
+    numbers[at + 1] = higher;
+    numbers[at + 2] = degree;
 }
 
-// The bytes of the first `count` pairs, one behind the other from `at` on.
-fn put_records(output: &mut [u8], at: usize, pairs: &[Pair], count: usize)
-    requires { ⌜ (count ≤ length (now pairs)) × (0 < count → at + 6 * count ≤ length (now output)) ⌝ }
-    ensures { λ _. ⌜ now (output .exit) ≡ over (now (output .entry)) at (pairsBytes (take count (listed (now (pairs .entry))))) ⌝ }
+// The numbers of the first `count` records, one behind the other.
+fn copy_records(numbers: &mut [u16], pairs: &[Pair], count: usize)
+    requires { ⌜ (count ≤ length (now pairs)) × (3 * count ≤ length (now numbers)) ⌝ }
+    ensures { λ _. ⌜ now (numbers .exit) ≡ over (now (numbers .entry)) 0 (numbersOf (take count (listed (now (pairs .entry))))) ⌝ }
 {
     let mut k = 0;
     while k < count {
         let pair = pairs[k];
-        put_pair(output, at + 6 * k, pair.lower, pair.higher, pair.degree);
+        put_three(numbers, 3 * k, pair.lower, pair.higher, pair.degree);
         k += 1;
     }
 }
 
-// The table file of these arities and pairs, written to the front of the output; or a refusal, and the output as it was.
+// The table file of these arities and pairs, as `write_records` has it, by way of a list of numbers that is lent for it.
+fn write_by(numbers: &mut [u16], arities: &[u8], pairs: &[Pair], output: &mut [u8]) -> Writing
+    requires { ⌜ (length (now pairs) ≤ mostPairs → 3 * length (now pairs) ≤ length (now numbers)) ⌝ }
+    ensures { λ r. ⌜ WriteRecords (now (arities .entry)) (now (pairs .entry)) (now (output .entry)) r (now (output .exit)) ⌝ }
+{
+    let count = fitting(numbers.len(), pairs.len());
+    copy_records(numbers, pairs, count);
+    write_first(arities, numbers, pairs.len(), output)
+}
+
+// Up to so many pairs have a small list: to fill the large one takes as long as to test three hundred pairs.
+const FEW: usize = 256;
+
+// The table file of these arities and pairs, written to the front of the output; or a refusal, and the output as it was. (The lists are filled
+// with 1s, 16 bytes at a time; zeros the compiler would leave to the C library, which may take them byte by byte.)
 pub fn write_records(arities: &[u8], pairs: &[Pair], output: &mut [u8]) -> Writing
     ensures { λ r. ⌜ WriteRecords (now (arities .entry)) (now (pairs .entry)) (now (output .entry)) r (now (output .exit)) ⌝ }
 {
-    let sound = sound_records(arities, pairs);
-    let begun = begin(arities, pairs.len(), sound, output);
-    put_records(output, 10 + arities.len(), pairs, due(begun, pairs.len()));
-    begun
+    if pairs.len() <= FEW {
+        let mut numbers = [1u16; 3 * FEW];
+        return write_by(&mut numbers, arities, pairs, output);
+    }
+    let mut numbers = [1u16; 3 * MOST_PAIRS];
+    write_by(&mut numbers, arities, pairs, output)
 }

@@ -3,7 +3,7 @@
 -- lists of numbers and of bytes
 pub mod Numbers
 -- what the functions' steps come to
-pub mod Passing
+pub mod Stops
 pub mod Rows
 pub mod Writer
 pub mod Answers

@@ -18,7 +18,7 @@ use Rattle.meaning.specs.Calls.{Answer, refused, gives, unless}
 use Rattle.meaning.proofs.First.{unless-refused, unless-gives, Silent, all-silent}
 use Rattle.meaning.proofs.Sound.{at0-none, inside-of}
 use Rattle.meaning.specs.Over.{over}
-use Rattle.writer.specs.Passing.{countedRows, countedAnswer, begunOutput}
+use Rattle.writer.specs.Counted.{countedRows, countedAnswer, begunOutput}
 use Rattle.meaning.specs.Calls.{refusedAs}
 
 -- the counts are within their limits

@@ -1,17 +1,23 @@
 // The table writer on numbers: it writes the whole file or changes nothing.
-pub mod pairs;
+mod pairs;
 
 ghost use mathlib.Core.Path.{_≡_};
+ghost use mathlib.Core.List.{List};
+ghost use Prim.Native.Nat.{_*_, _≤_};
 ghost use lib.ListN.{length};
+ghost use Rattle.theory.specs.Pairs.{Pair};
+ghost use Rattle.meaning.specs.Limits.{mostPairs};
 ghost use Rattle.meaning.specs.File.{pairsOf};
 ghost use Rattle.meaning.specs.Calls.{written, laterOutput};
-ghost use Rattle.writer.specs.Passing.{countedAnswer, begunOutput};
+ghost use Rattle.writer.specs.Counted.{countedAnswer, begunOutput};
+ghost use Rattle.writer.specs.Laid.{Laid};
 ghost use Rattle.writer.specs.Said.{said};
 use crate::pairs::sound_pairs;
 use layout::put_arities;
 use layout::put_header;
 use layout::put_numbers;
 use refusal::Refusal;
+use table::rules::MOST_PAIRS;
 use table::rules::Place;
 use table::rules::allowed;
 use table::rules::high_arity;
@@ -47,7 +53,7 @@ fn verdict(arities: &[u8], pairs: usize, sound: usize, room: usize) -> Writing
 }
 
 // Writes the file's front, all but its pairs, or refuses. Every refusal is made here, before the first byte is written.
-pub fn begin(arities: &[u8], pairs: usize, sound: usize, output: &mut [u8]) -> Writing
+fn begin(arities: &[u8], pairs: usize, sound: usize, output: &mut [u8]) -> Writing
     ensures { λ r. ⌜ said r ≡ countedAnswer (now (arities .entry)) pairs sound (length (now (output .entry))) ⌝ }
     ensures { λ _. ⌜ now (output .exit) ≡ begunOutput (now (arities .entry)) pairs sound (now (output .entry)) ⌝ }
 {
@@ -78,4 +84,18 @@ pub fn write(arities: &[u8], numbers: &[u16], output: &mut [u8]) -> Writing
         Writing::Refused(_) => {}
     }
     begun
+}
+
+// The same of so many pairs that the list of numbers begins with. Where they are more than a table may have, they need not be there: they are
+// refused for their number.
+pub fn write_first(arities: &[u8], numbers: &[u16], pairs: usize, output: &mut [u8]) -> Writing
+    requires { ⌜ (pairs ≤ mostPairs → 3 * pairs ≤ length (now numbers)) ⌝ }
+    ensures { λ r. ⌜ ((ps : List Pair) → length ps ≡ pairs → Laid (now (numbers .entry)) ps → said r ≡ written (now (arities .entry)) ps (now (output .entry))) ⌝ }
+    ensures { λ _. ⌜ ((ps : List Pair) → length ps ≡ pairs → Laid (now (numbers .entry)) ps → now (output .exit) ≡ laterOutput (now (arities .entry)) ps (now (output .entry))) ⌝ }
+{
+    if pairs > MOST_PAIRS {
+        return Writing::Refused(Refusal::Counts);
+    }
+    let end = 3 * pairs;
+    write(arities, &numbers[..end], output)
 }

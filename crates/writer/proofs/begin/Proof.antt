@@ -6,7 +6,7 @@ use lib.ListN.{length}
 use Rattle.meaning.specs.File.{header}
 use Rattle.meaning.specs.Calls.{gives}
 use Rattle.refusal.specs.Told.{told}
-use Rattle.writer.specs.Passing.{countedAnswer}
+use Rattle.writer.specs.Counted.{countedAnswer}
 use Rattle.writer.specs.Said.{said}
 use Rattle.meaning.proofs.Over.{over-next}
 use Rattle.writer.proofs.Rows.{given-counted, given-room, begun-given, begun-refused}
