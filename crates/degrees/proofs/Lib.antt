@@ -1,3 +1,4 @@
--- Laws that the proofs of functions cite.
+-- Laws that the proofs of functions cite, here and in the crates above.
 mod Halving
-mod Listed
+pub mod Listed
+pub mod Narrowing

@@ -1,14 +1,17 @@
 // The degree of two symbol numbers.
+pub mod rows;
+
 ghost use mathlib.Core.Path.{_≡_};
-ghost use Prim.Native.Nat.{_+_, _<_, _≤_, min, max};
+ghost use Prim.Native.Nat.{_+_, _<_, min, max};
 ghost use lib.ListN.{length};
-ghost use Rattle.meaning.specs.File.{number, tableIn};
+ghost use Rattle.meaning.specs.File.{number, pairCount, tableIn};
 ghost use Rattle.meaning.specs.Refusals.{SoundFile};
 ghost use Rattle.table.specs.Keys.{keyOf};
 ghost use Rattle.table.specs.Read.{Counted};
+ghost use Rattle.degrees.specs.Sought.{keyAt, Between};
 use table::number::number_at;
-use table::read::pair_count;
-use table::read::symbol_count;
+use table::read::Counts;
+use table::read::counts_of;
 use table::rules::key;
 
 // The key of the pair whose bytes start at i.
@@ -19,15 +22,24 @@ fn key_from(bytes: &[u8], i: usize) -> u32
     key(number_at(bytes, i), number_at(bytes, i + 2))
 }
 
-// The degree listed for two symbols, 0 if none is: pairs stand by rising keys, so halving finds the one that is sought.
-fn listed_degree(file: &[u8], symbols: u16, pairs: u16, lower: u16, higher: u16) -> u16
-    requires { ⌜ Counted (now file) symbols pairs × (lower < higher) ⌝ }
+// The degree listed for two symbols, 0 if none is. Their pair is sought from pair `first` to below pair `end`: pairs stand by rising keys, so
+// halving finds it.
+fn listed_between(
+    file: &[u8],
+    counts: Counts,
+    first: usize,
+    end: usize,
+    lower: u16,
+    higher: u16,
+) -> u16
+    requires { ⌜ Counted (now file) counts × (lower < higher) ⌝ }
+    requires { ⌜ Between (keyAt (now file)) (pairCount (now file)) (keyOf lower higher) first end ⌝ }
     ensures { λ r. ⌜ r ≡ tableIn (now (file .entry)) .deg lower higher ⌝ }
 {
     let wanted = key(lower, higher);
-    let start = 10 + symbols as usize;
-    let mut low: usize = 0;
-    let mut high = pairs as usize;
+    let start = 10 + counts.symbols as usize;
+    let mut low = first;
+    let mut high = end;
     while low < high {
         let middle = (low + high) / 2;
         let at = start + 6 * middle;
@@ -44,38 +56,28 @@ fn listed_degree(file: &[u8], symbols: u16, pairs: u16, lower: u16, higher: u16)
     0
 }
 
-// The degree of two numbers, the first not the higher.
-fn ordered_degree(file: &[u8], symbols: u16, pairs: u16, lower: u16, higher: u16) -> u16
-    requires { ⌜ Counted (now file) symbols pairs × (lower ≤ higher) ⌝ }
-    ensures { λ r. ⌜ r ≡ tableIn (now (file .entry)) .deg lower higher ⌝ }
+// The degree of two numbers, for one who asks often and has read the counts once.
+pub fn counted_degree(file: &[u8], counts: Counts, a: u16, b: u16) -> u16
+    requires { ⌜ Counted (now file) counts ⌝ }
+    ensures { λ r. ⌜ r ≡ tableIn (now (file .entry)) .deg a b ⌝ }
 {
+    let lower = lesser(a, b);
+    let higher = greater(a, b);
     // what is no symbol of the table is near nothing
-    if higher >= symbols {
+    if higher >= counts.symbols {
         return 0;
     }
     if lower == higher {
         return 1000;
     }
-    listed_degree(file, symbols, pairs, lower, higher)
-}
-
-// The degree of two numbers, for one who asks often and has read the counts once.
-pub fn counted_degree(file: &[u8], symbols: u16, pairs: u16, a: u16, b: u16) -> u16
-    requires { ⌜ Counted (now file) symbols pairs ⌝ }
-    ensures { λ r. ⌜ r ≡ tableIn (now (file .entry)) .deg a b ⌝ }
-{
-    if a <= b {
-        ordered_degree(file, symbols, pairs, a, b)
-    } else {
-        ordered_degree(file, symbols, pairs, b, a)
-    }
+    listed_between(file, counts, 0, counts.pairs as usize, lower, higher)
 }
 
 pub fn degree(file: &[u8], a: u16, b: u16) -> u16
     requires { ⌜ SoundFile (now file) ⌝ }
     ensures { λ r. ⌜ r ≡ tableIn (now (file .entry)) .deg a b ⌝ }
 {
-    counted_degree(file, symbol_count(file), pair_count(file), a, b)
+    counted_degree(file, counts_of(file), a, b)
 }
 
 pub fn lesser(a: u16, b: u16) -> u16

@@ -10,12 +10,15 @@ use lib.Seq.{drop-cons, drop-length}
 use Rattle.theory.specs.Tree.{enc}
 use Rattle.theory.specs.Table.{Table, Over}
 use Rattle.theory.specs.Decode.{termOf}
+use Rattle.theory.specs.Match.{at}
 use Rattle.theory.proofs.Flat.{flat, flat-top, degree-flat, degree-top, reach-size}
 use Rattle.theory.proofs.More.{degree-itself, degree-either}
 use Rattle.theory.proofs.Decoding.{heading-of}
+use Rattle.theory.proofs.Draw.{over-at}
 use Rattle.meaning.specs.File.{tableIn}
 use Rattle.meaning.specs.Refusals.{SoundFile}
 use Rattle.meaning.proofs.Sound.{sound}
+use Rattle.meaning.proofs.Drawn.{getD-any}
 use Rattle.terms.specs.Degrees.{Heading, degreeOf}
 
 -- At index i of a loop over both lists: the lesser of `least` and what is left of them from there on is their degree.
@@ -30,6 +33,15 @@ module _ (file : List ℕ) (s : SoundFile file) where
 
   written : (xs : List ℕ) → Heading T xs → Over T (termOf T xs) × (xs ≡ enc (termOf T xs))
   written = heading-of T (omega (arith, sound file s .small))
+
+  -- LAW: each node of a heading is a symbol
+  pub node-symbol : (xs : List ℕ) → Heading T xs → (i : ℕ) → i < length xs → getD xs i 0 < T .size
+  node-symbol xs h i l =
+      let t = termOf T xs in
+      let w = written xs h in
+      let m : i < length (enc t) = omega (arith, ap length (w .1)) in
+      let e : getD xs i 0 ≡ at T t i = ap (λ (l : List ℕ). getD l i 0) (w .1) ∙ getD-any (enc t) i 0 (T .size) m in
+      omega (arith, over-at T t (w .0) i m)
 
   -- LAW: the degree of two headings is the same in either order
   pub headings-either : (one two : List ℕ) → degreeOf T one two ≡ degreeOf T two one

@@ -3,5 +3,6 @@ pub mod Told
 pub mod Nodes
 pub mod Steps
 pub mod Ends
+pub mod Levels
 pub mod Readings
 pub mod Degrees

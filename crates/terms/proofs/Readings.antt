@@ -1,35 +1,30 @@
 -- The whole list, from its length and from what the walk over its first term comes to.
-use mathlib.Core.Path.{_≡_, ap}
+use mathlib.Core.Path.{_≡_, sym, ap}
 use mathlib.Core.List.{List}
 use mathlib.Core.Bool.{Bool, false}
 use Prim.Native.Nat.{ℕ, _≤_, _<_}
 use lib.ListN.{length}
 use borrow.Author.Tests.{lt-ltb, le-ltb, eq-eqb, ne-eqb}
 use Rattle.theory.specs.Table.{Table}
-use Rattle.theory.specs.Read.{walk, Reading, whole, faulty, reading}
+use Rattle.theory.specs.Read.{ends, fault, walk, Reading, whole, faulty, reading}
 use Rattle.meaning.specs.Refusals.{row, faultOf, row6, row7}
-use Rattle.terms.specs.Walks.{walkIn}
-use Rattle.terms.specs.declared.walk.Walked.{Walked}
-use Rattle.terms.specs.declared.walk.Walked.the-variants.{Ends, Fault}
-use Rattle.terms.proofs.Told.{told}
 
 module _ (T : Table) (vars : Bool) (xs : List ℕ) where
   pub too-long : 1024 < length xs → faulty 1024 ≡ reading T vars xs
   too-long l = rw (lt-ltb 1024 (length xs) l)
 
-  -- the code's answer on the first term
-  module _ (few : length xs ≤ 1024) (r : Walked) (answers : walkIn r ≡ walk T vars xs 64 0) (j : ℕ) where
+  module _ (few : length xs ≤ 1024) (j : ℕ) where
     -- the term is the whole list
-    pub all-of-it : r ≡ Ends j → j ≡ length xs → whole ≡ reading T vars xs
-    all-of-it e q = rw (le-ltb 1024 (length xs) few, told walkIn answers e, eq-eqb j (length xs) q)
+    pub all-of-it : ends j ≡ walk T vars xs 64 0 → j ≡ length xs → whole ≡ reading T vars xs
+    all-of-it e q = rw (le-ltb 1024 (length xs) few, sym e, eq-eqb j (length xs) q)
 
     -- nodes stand after it
-    pub more-after : r ≡ Ends j → (j ≡ length xs → ⊥) → faulty j ≡ reading T vars xs
-    more-after e q = rw (le-ltb 1024 (length xs) few, told walkIn answers e, ne-eqb j (length xs) q)
+    pub more-after : ends j ≡ walk T vars xs 64 0 → (j ≡ length xs → ⊥) → faulty j ≡ reading T vars xs
+    more-after e q = rw (le-ltb 1024 (length xs) few, sym e, ne-eqb j (length xs) q)
 
     -- there is none
-    pub fault-in : r ≡ Fault j → faulty j ≡ reading T vars xs
-    fault-in e = rw (le-ltb 1024 (length xs) few, told walkIn answers e)
+    pub fault-in : fault j ≡ walk T vars xs 64 0 → faulty j ≡ reading T vars xs
+    fault-in e = rw (le-ltb 1024 (length xs) few, sym e)
 
 -- LAW: refusals 6 and 7 have the reading's place
 pub row6-is : (T : Table) (vars : Bool) (xs : List ℕ) (r : Reading) → reading T vars xs ≡ r → row6 T vars xs ≡ row 6 (faultOf r)

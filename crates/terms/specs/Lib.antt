@@ -1,4 +1,5 @@
 pub mod Kinds
 pub mod Walks
+pub mod Levels
 pub mod Readings
 pub mod Degrees

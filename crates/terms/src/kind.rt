@@ -14,6 +14,10 @@ pub enum Kind {
 
 // No table has a symbol above.
 const LAST_SYMBOL: u16 = SymbolSet::ROOM - 1;
+// The nodes that are variables, the first and the last.
+pub const FIRST_VARIABLE: u16 = 32768;
+
+const LAST_VARIABLE: u16 = FIRST_VARIABLE + 31;
 
 // The kind of a node over a table of so many symbols.
 pub fn kind_of(symbols: u16, node: u16) -> Kind
@@ -26,7 +30,7 @@ pub fn kind_of(symbols: u16, node: u16) -> Kind
         } else {
             Kind::Neither
         },
-        32768..=32799 => Kind::Variable(node - 32768),
+        FIRST_VARIABLE..=LAST_VARIABLE => Kind::Variable(node - FIRST_VARIABLE),
         _ => Kind::Neither,
     }
 }
