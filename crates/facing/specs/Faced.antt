@@ -14,11 +14,11 @@ use Rattle.facing.specs.declared.faces.Facing.the-variants.{Clash, Clear
 
 module _ (table : List ℕ) (cut : ℕ) (pattern heading : List ℕ) where
   -- Nothing clashes, this is the least degree of a symbol with the one that faces it, and each variable's node has its note.
-  pub record ClearBy (degree : ℕ) (starts sizes : List ℕ) : Type 0 where
+  pub record ClearBy (degree : ℕ) (notes : List ℕ) : Type 0 where
     pub clear : clash (tableIn table) cut (facesIn table pattern heading) ≡ none
     pub lowest : degree ≡ least (symbolWorth (tableIn table)) (facesIn table pattern heading)
-    pub noted : Noted heading starts sizes (facesIn table pattern heading)
+    pub noted : Noted heading notes (facesIn table pattern heading)
 
-  abbrev pub FacedBy : Facing → List ℕ → List ℕ → Type 0
-  FacedBy (Clash i) starts sizes = clash (tableIn table) cut (facesIn table pattern heading) ≡ just i
-  FacedBy (Clear degree) starts sizes = ClearBy degree starts sizes
+  abbrev pub FacedBy : Facing → List ℕ → Type 0
+  FacedBy (Clash i) notes = clash (tableIn table) cut (facesIn table pattern heading) ≡ just i
+  FacedBy (Clear degree) notes = ClearBy degree notes

@@ -1,31 +1,27 @@
--- Near sets, gathered pair by pair: after all pairs they hold the symbols that are near, as OnePass has it, and the lowest degree in a set is
+-- A near set, gathered pair by pair: after all pairs it holds the symbols that are near, as OnePass has it, and the lowest degree in it is
 -- the lowest of its pairs', for two symbols have no degree but the one that is listed for them.
 use mathlib.Core.Path.{_≡_, refl, sym as inv, ap, _∙_, subst}
 use mathlib.Core.Logic.{inl, inr}
 use mathlib.Core.List.{List}
-use mathlib.Core.Bool.{Bool, true, false, _&&_, _||_, cond, or-comm, false≢true}
-use Prim.Native.Nat.{ℕ, _+_, _-_, _*_, _/_, _%_, _≤_, _<_, min, max}
+use mathlib.Core.Bool.{Bool, true, false, _&&_, _||_, cond, or-comm, or-false, false≢true}
+use Prim.Native.Nat.{ℕ, _+_, _-_, _≤_, _<_, min, max}
 use native.Mathlib.Decide.{ℕ-discrete}
 use native.Mathlib.Numerals.{add-one}
 use native.Mathlib.Omega.{arith}
 use borrow.Author.Tests.{lt-ltb, ltb-true, eq-eqb}
 use lib.Dec.{ltb, leb, eqb}
-use lib.ListN.{length, getD}
 use Rattle.theory.specs.Least.{some, lowest}
 use Rattle.theory.specs.Table.{Table}
 use Rattle.theory.specs.Pairs.{Pair, pair, isPair, SoundPair}
 use Rattle.theory.proofs.Lemmas.{the-most, and-true, and-left, and-right, or-right, lowest-le, lowest-top, le-lowest}
-use Rattle.meaning.specs.Limits.{wordBits, setWords, setRoom}
-use Rattle.meaning.specs.Calls.{zeros}
-use Rattle.meaning.specs.Buffers.{bit}
+use Rattle.meaning.specs.Limits.{setRoom}
 use Rattle.meaning.specs.File.{pairCount, pairAt, aritiesIn, tableIn}
 use Rattle.meaning.specs.Refusals.{SoundFile}
 use Rattle.meaning.specs.Tables.{pairStart, lowerAt, higherAt, degreeAt}
-use Rattle.meaning.proofs.Bits.{bit-zero, getD-zeros}
 use Rattle.meaning.proofs.Bytes.{pair-in}
 use Rattle.meaning.proofs.Sound.{sound}
 use Rattle.table.proofs.Reading.{sound-at}
-use Rattle.near.specs.Near.{nearWords, inRow, inNear, farthest, isNear, NearSets, PairJoined}
+use Rattle.near.specs.Near.{inRow, kept, isNear, NearSet, Alone, PairJoined}
 use Rattle.near.specs.OnePass.{brings, walked}
 use Rattle.near.proofs.OnePass.{pair-degree, apart, one-pass}
 
@@ -40,45 +36,51 @@ module _ (file : List ℕ) (cut : ℕ) where
   abbrev brought : ℕ → ℕ → ℕ
   brought h i = cond (touches h i) (degreeAt file i) 1000
 
-  -- the sets as the first n pairs make them
-  pub record NearTo (n : ℕ) (near : List ℕ) : Type 0 where
-    pub has : (h k : ℕ) → k < setRoom → inRow near h k ≡ some n (brings file cut h k)
-    pub within : (h : ℕ) → farthest near h ≤ 1000
-    pub low : (h : ℕ) → 1000 - farthest near h ≡ lowest n (brought h)
+  -- the set of h as the first n pairs make it
+  pub record NearTo (n : ℕ) (near : List ℕ) (h : ℕ) : Type 0 where
+    pub has : (k : ℕ) → k < setRoom → inRow near h k ≡ (eqb k h || some n (brings file cut h k))
+    pub gathered : 1 < kept near h
+    pub within : kept near h ≤ 1002
+    pub low : 1002 - kept near h ≡ lowest n (brought h)
 
-  -- LAW: no pair yet, in zeros
-  pub near-none : (near : List ℕ) → near ≡ zeros (length near) → NearTo 0 near
-  unfolding inRow farthest
-  near-none near e =
+  -- LAW: no pair yet
+  pub near-none : (near : List ℕ) (h : ℕ) → Alone near h → NearTo 0 near h
+  near-none near h a =
       record {
-        has = λ h k l. ap (bit (k % wordBits)) (none-at (nearWords * h + k / wordBits)) ∙ bit-zero (k % wordBits);
-        within = λ h. omega (arith, none-at (nearWords * h + setWords));
-        low = λ h. omega (arith, none-at (nearWords * h + setWords));
+        has = λ k l. a .has k l ∙ inv (or-false (eqb k h));
+        gathered = omega (arith, a .top);
+        within = omega (arith, a .top);
+        low = omega (arith, a .top);
       }
-    where
-      none-at : (i : ℕ) → getD near i 0 ≡ 0
-      none-at i = ap (λ (s : List ℕ). getD s i 0) e ∙ getD-zeros (length near) i
 
   -- LAW: one pair more
   pub near-next : (n lower higher degree : ℕ) (before after : List ℕ) → pair lower higher degree ≡ pairAt file (pairStart file n) → degreeAt file n ≤ 1000
-      → NearTo n before → PairJoined cut lower higher degree before after → NearTo (n + 1) after
-  near-next n lower higher degree before after is top so-far joins =
+      → PairJoined cut lower higher degree before after → (h : ℕ) → NearTo n before h → NearTo (n + 1) after h
+  near-next n lower higher degree before after is top joins h so-far =
       let more = subst Joins is joins in
+      let last = grown (touches h n) (more .far h (so-far .gathered)) in
       record {
-        has = λ h k l.
-            more .has h k l
-            ∙ rw (so-far .has h k l, add-one n) (or-comm (some n (brings file cut h k)) (brings file cut h k n));
-        within = λ h. grown h (touches h n) (more .far h) .0;
-        low = λ h. rw (add-one n) (grown h (touches h n) (more .far h) .1);
+        has = λ k l.
+            more .has h k (so-far .gathered) l
+            ∙ rw (so-far .has k l, add-one n) (regroup (eqb k h) (some n (brings file cut h k)) (brings file cut h k n));
+        gathered = last .0;
+        within = last .1;
+        low = rw (add-one n) (last .2);
       }
     where
       Joins : Pair → Type 0
       Joins (pair l u d) = PairJoined cut l u d before after
 
-      grown : (h : ℕ) (b : Bool) → farthest after h ≡ cond b (max (farthest before h) (1000 - degreeAt file n)) (farthest before h)
-          → (farthest after h ≤ 1000) × (1000 - farthest after h ≡ min (cond b (degreeAt file n) 1000) (lowest n (brought h)))
-      grown h true e = (omega (arith, so-far .within h), omega (arith, so-far .within h, so-far .low h))
-      grown h false e = (omega (arith, so-far .within h), omega (arith, so-far .low h, lowest-top n (brought h)))
+      regroup : (a b c : Bool) → ((a || b) || c) ≡ (a || (c || b))
+      regroup true b c = refl
+      regroup false b c = or-comm b c
+
+      grown : (b : Bool) → kept after h ≡ cond b (max (kept before h) (1002 - degreeAt file n)) (kept before h)
+          → (1 < kept after h) × (kept after h ≤ 1002) × (1002 - kept after h ≡ min (cond b (degreeAt file n) 1000) (lowest n (brought h)))
+      grown true e =
+          (omega (arith, so-far .gathered), omega (arith, so-far .within), omega (arith, so-far .within, so-far .low))
+      grown false e =
+          (omega (arith, so-far .gathered), omega (arith, so-far .within), omega (arith, so-far .low, lowest-top n (brought h)))
 
   module _ (ok : SoundFile file) where
     -- LAW: a pair is of two symbols, and has a degree
@@ -153,21 +155,16 @@ module _ (file : List ℕ) (cut : ℕ) where
             omega (arith, lowest-top (pairCount file) (brought h), ap (T .deg k) d, sound file ok .lawful .itself k inside)
         go true e (no d) = different d (and-right (ltb k (T .size)) (leb cut (T .deg k h)) e) _ refl
 
-    -- LAW: all pairs, where a symbol is in its own set besides
-    pub near-all : cut ≤ 1000 → (near : List ℕ) → NearTo (pairCount file) near → NearSets T cut near
-    unfolding inNear
-    near-all top near all =
+    -- LAW: all pairs
+    pub near-all : cut ≤ 1000 → (near : List ℕ) (h : ℕ) → h < T .size → NearTo (pairCount file) near h → NearSet T cut near h
+    near-all top near h m all =
+        let itself : (k : ℕ) → walked file cut (pairCount file) h k ≡ (eqb k h || some (pairCount file) (brings file cut h k)) = λ k. rw (lt-ltb h (T .size) m) in
+        let g : ℕ → ℕ = λ k. cond (isNear T cut h k) (T .deg k h) 1000 in
+        let least = le-lowest (T .size) g (lowest (pairCount file) (brought h)) (lowest-top (pairCount file) (brought h)) (λ k l. low-symbol h k) in
+        let most = le-lowest (pairCount file) (brought h) (lowest (T .size) g) (lowest-top (T .size) g) (low-pair h) in
         record {
-          has = λ h k m l.
-              let itself : walked file cut (pairCount file) h k ≡ (eqb k h || some (pairCount file) (brings file cut h k)) = rw (lt-ltb h (T .size) m) in
-              ap (λ (b : Bool). b || eqb k h) (all .has h k l)
-              ∙ or-comm (some (pairCount file) (brings file cut h k)) (eqb k h)
-              ∙ inv itself
-              ∙ one-pass file ok cut positive top .as-asked h k;
+          has = λ k l. all .has k l ∙ inv (itself k) ∙ one-pass file ok cut positive top .as-asked h k;
+          gathered = all .gathered;
           within = all .within;
-          low = λ h.
-              let g : ℕ → ℕ = λ k. cond (isNear T cut h k) (T .deg k h) 1000 in
-              let least = le-lowest (T .size) g (lowest (pairCount file) (brought h)) (lowest-top (pairCount file) (brought h)) (λ k l. low-symbol h k) in
-              let most = le-lowest (pairCount file) (brought h) (lowest (T .size) g) (lowest-top (T .size) g) (low-pair h) in
-              all .low h ∙ omega arith;
+          low = all .low ∙ omega arith;
         }

@@ -1,7 +1,7 @@
 -- Laws of sets as words, for any number n of words: which symbols n words can tell of, and that the words follow from the members, since
 -- each word follows from its bits.
 use mathlib.Core.Path.{_≡_, refl, sym as inv, ap, ap₂, _∙_}
-use mathlib.Core.Bool.{Bool, false}
+use mathlib.Core.Bool.{Bool, false, _||_, or-false}
 use mathlib.Core.List.{List}
 use Prim.Native.Nat.{ℕ, zero, suc, _+_, _*_, _/_, _%_, _^_, _≤_, _<_}
 use native.Mathlib.Decide.{ℕ-discrete}
@@ -10,16 +10,17 @@ use mir.Syntax.{w64}
 use mir.Val.{Fits}
 use borrow.Author.Tests.{eq-eqb, ne-eqb}
 use lib.Dec.{eqb}
+use lib.Bits.{bitOr}
 use lib.Pow.{pow-lt}
 use lib.Seq.{getD-set-same, getD-set-other, ext-getD}
-use lib.ListN.{length, getD, length-set, length-replicate, List·getD-eq-default}
+use lib.ListN.{length, getD, set, length-set, length-replicate, List·getD-eq-default}
 use Rattle.meaning.specs.Limits.{wordBits}
 use Rattle.meaning.specs.Packing.{wordsFrom}
 use Rattle.meaning.specs.Calls.{zeros}
 use Rattle.meaning.specs.Buffers.{bit, member}
 use Rattle.meaning.proofs.Bits.{bit-zero, bit-of, word-of, getD-zeros}
 use Rattle.sets.specs.Words.{Words, oneBit}
-use Rattle.sets.proofs.Word.{word-is, bit-power}
+use Rattle.sets.proofs.Word.{word-is, bit-power, or-bit}
 
 -- ---- which symbols words tell of
 
@@ -30,6 +31,14 @@ member-at ws j i l =
     let q : (wordBits * j + i) / wordBits ≡ j = omega arith in
     let r : (wordBits * j + i) % wordBits ≡ i = omega arith in
     ap₂ (λ (i j : ℕ). bit i (getD ws j 0)) r q
+
+-- LAW: two symbols of one word are the same if their bits are
+pub same-bit : (j k : ℕ) → j / wordBits ≡ k / wordBits → eqb (j % wordBits) (k % wordBits) ≡ eqb j k
+same-bit j k q = go (ℕ-discrete (j % wordBits) (k % wordBits))
+  where
+    go : Dec (j % wordBits ≡ k % wordBits) → eqb (j % wordBits) (k % wordBits) ≡ eqb j k
+    go (yes r) = eq-eqb _ _ r ∙ inv (eq-eqb j k (omega arith))
+    go (no r) = ne-eqb _ _ r ∙ inv (ne-eqb j k (λ e. r (ap (λ (i : ℕ). i % wordBits) e)))
 
 -- LAW: n words tell of no symbol at or above 64 * n
 pub none-past : (n : ℕ) (ws : List ℕ) → length ws ≡ n → (k : ℕ) → wordBits * n ≤ k → member ws k ≡ false
@@ -102,16 +111,13 @@ module _ (n k : ℕ) (l : k < wordBits * n) where
 
   pub member-one : (j : ℕ) → member (oneBit n k) j ≡ eqb j k
   unfolding member
-  member-one j = go (ℕ-discrete (j / wordBits) (k / wordBits)) (ℕ-discrete (j % wordBits) (k % wordBits)) where
-    go : Dec (j / wordBits ≡ k / wordBits) → Dec (j % wordBits ≡ k % wordBits) → bit (j % wordBits) (getD (oneBit n k) (j / wordBits) 0) ≡ eqb j k
-    go (no q) d =
+  member-one j = go (ℕ-discrete (j / wordBits) (k / wordBits)) where
+    go : Dec (j / wordBits ≡ k / wordBits) → bit (j % wordBits) (getD (oneBit n k) (j / wordBits) 0) ≡ eqb j k
+    go (no q) =
         ap (bit (j % wordBits)) (of-other (j / wordBits) q)
         ∙ bit-zero (j % wordBits)
         ∙ inv (ne-eqb j k (λ e. q (ap (λ (i : ℕ). i / wordBits) e)))
-    go (yes q) d = ap (bit (j % wordBits)) (of-word (j / wordBits) q) ∙ bit-power (k % wordBits) (j % wordBits) ∙ same d where
-      same : Dec (j % wordBits ≡ k % wordBits) → eqb (j % wordBits) (k % wordBits) ≡ eqb j k
-      same (yes r) = eq-eqb _ _ r ∙ inv (eq-eqb j k (omega arith))
-      same (no r) = ne-eqb _ _ r ∙ inv (ne-eqb j k (λ e. r (ap (λ (i : ℕ). i % wordBits) e)))
+    go (yes q) = ap (bit (j % wordBits)) (of-word (j / wordBits) q) ∙ bit-power (k % wordBits) (j % wordBits) ∙ same-bit j k q
 
   words-one : Words n (oneBit n k)
   words-one =
@@ -126,6 +132,30 @@ module _ (n k : ℕ) (l : k < wordBits * n) where
   -- LAW: the set of one symbol is a single bit
   pub one-image : (ws : List ℕ) → Words n ws → ((j : ℕ) → member ws j ≡ eqb j k) → ws ≡ oneBit n k
   one-image ws w h = same-set n ws (oneBit n k) w words-one (λ j m. h j ∙ inv (member-one j))
+
+-- ---- one symbol more
+
+-- LAW: with the bit of k set in its word, k is a member too, and all else is as it was
+pub member-with : (ws : List ℕ) (k : ℕ) → k / wordBits < length ws → (j : ℕ)
+    → member (set ws (k / wordBits) (bitOr (getD ws (k / wordBits) 0) (2 ^ (k % wordBits)))) j ≡ (member ws j || eqb j k)
+unfolding member
+member-with ws k l j = go (ℕ-discrete (j / wordBits) (k / wordBits))
+  where
+    at : ℕ
+    at = k / wordBits
+
+    word : ℕ
+    word = bitOr (getD ws at 0) (2 ^ (k % wordBits))
+
+    go : Dec (j / wordBits ≡ at) → bit (j % wordBits) (getD (set ws at word) (j / wordBits) 0) ≡ (bit (j % wordBits) (getD ws (j / wordBits) 0) || eqb j k)
+    go (yes q) =
+        rw q
+        (ap (bit (j % wordBits)) (getD-set-same ws at word 0 l)
+        ∙ or-bit (j % wordBits) (getD ws at 0) (2 ^ (k % wordBits))
+        ∙ ap (λ (b : Bool). bit (j % wordBits) (getD ws at 0) || b) (bit-power (k % wordBits) (j % wordBits) ∙ same-bit j k q))
+    go (no q) =
+        rw (ne-eqb j k (λ e. q (ap (λ (i : ℕ). i / wordBits) e)))
+        (ap (bit (j % wordBits)) (getD-set-other ws at (j / wordBits) word 0 q) ∙ inv (or-false _))
 
 -- LAW: the set of no symbol is all zeros
 pub empty-image : (n : ℕ) (ws : List ℕ) → Words n ws → ((k : ℕ) → member ws k ≡ false) → ws ≡ zeros n

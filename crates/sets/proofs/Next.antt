@@ -13,7 +13,7 @@ use lib.Pow.{shr-shr, shr-lt}
 use Rattle.meaning.specs.Limits.{wordBits}
 use Rattle.meaning.specs.Buffers.{bit, member}
 use Rattle.meaning.proofs.Bits.{bit-zero}
-use Rattle.sets.specs.Words.{Words, NoneBetween, NextMember}
+use Rattle.sets.specs.Words.{NoneBetween, NextMember}
 use Rattle.sets.proofs.Word.{low-clear, low-set}
 
 -- what is left of a word from symbol k on
@@ -49,9 +49,9 @@ module _ (ws : List ℕ) (from k : ℕ) where
       rw to at (none-more (wordBits - k % wordBits) (omega arith) (λ i l. ap (bit i) e ∙ bit-zero i) none)
 
   -- LAW: the next member is in this word
-  pub found-in-word : (n : ℕ) → Words n ws → from ≤ k → k < wordBits * n → 0 < rest → NoneBetween ws from k
+  pub found-in-word : (n : ℕ) → getD ws (k / wordBits) 0 < 2 ^ wordBits → from ≤ k → k < wordBits * n → 0 < rest → NoneBetween ws from k
       → NextMember n ws from (k + trailingZeros wordBits rest)
-  found-in-word n w l m some none =
+  found-in-word n fits l m some none =
       record {
         not-below = omega arith;
         room = omega (arith, low .0);
@@ -66,4 +66,4 @@ module _ (ws : List ℕ) (from k : ℕ) where
       whole = omega arith
 
       low : (trailingZeros wordBits rest < left) × (bit (trailingZeros wordBits rest) rest ≡ true)
-      low = low-set wordBits rest left some (shr-lt left (k % wordBits) (rw whole (w .fit (k / wordBits)))) (omega arith)
+      low = low-set wordBits rest left some (shr-lt left (k % wordBits) (rw whole fits)) (omega arith)

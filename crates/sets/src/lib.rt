@@ -47,22 +47,23 @@ impl SymbolSet {
         SymbolSet { words }
     }
 
-    // The least symbol of the set that is not below `from`, or some number that is not below `end` where none is below that. Words past the end
-    // are not looked at, so that the symbols of a small table cost no more than they are.
+    // The set with symbol k in it too. One bit is set, so that this costs the same however many words a set has.
+    pub fn with(self, k: u16) -> SymbolSet
+        requires { ⌜ k < setRoom ⌝ }
+        ensures { λ r. ⌜ ((j : ℕ) → member (r .words) j ≡ (member (self .words) j || eqb j k)) ⌝ }
+    {
+        let mut words = self.words;
+        let at = (k / SymbolSet::BITS) as usize;
+        words[at] = words[at] | 1u64 << (k % SymbolSet::BITS);
+        SymbolSet { words }
+    }
+
+    // The least symbol of the set that is not below `from`, as `next_member` says.
     pub fn next(self, from: u16, end: u16) -> u16
         requires { ⌜ (from ≤ setRoom) × (end ≤ setRoom) ⌝ }
         ensures { λ r. ⌜ NextBelow setWords (self .words) from end r ⌝ }
     {
-        let words = self.words;
-        let mut k = from;
-        while k < end {
-            let rest = words[(k / SymbolSet::BITS) as usize] >> (k % SymbolSet::BITS);
-            if rest != 0 {
-                return k + u64::trailing_zeros(rest) as u16;
-            }
-            k = (k / SymbolSet::BITS + 1) * SymbolSet::BITS;
-        }
-        k
+        next_member(&self.words, from, end)
     }
 
     // The symbols that are in both sets.
@@ -126,4 +127,22 @@ impl SymbolSet {
         }
         true
     }
+}
+
+// The least symbol of a set that is not below `from`, or some number that is not below `end` where none is below that. Words past the end
+// are not looked at, so that the symbols of a small table cost no more than they are. The words are lent, so that a loop over the members copies none.
+pub fn next_member(words: &[u64; SymbolSet::WORDS], from: u16, end: u16) -> u16
+    requires { ⌜ (from ≤ setRoom) × (end ≤ setRoom) ⌝ }
+    ensures { λ r. ⌜ NextBelow setWords (now (words .entry)) from end r ⌝ }
+{
+    let mut k = from;
+    while k < end {
+        let word = &words[(k / SymbolSet::BITS) as usize];
+        let rest = *word >> (k % SymbolSet::BITS);
+        if rest != 0 {
+            return k + u64::trailing_zeros(rest) as u16;
+        }
+        k = (k / SymbolSet::BITS + 1) * SymbolSet::BITS;
+    }
+    k
 }

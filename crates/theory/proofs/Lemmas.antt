@@ -1,5 +1,5 @@
 -- Lemmas on `least` and `All`, and on the numbers below n.
-use mathlib.Core.Path.{_≡_, refl, sym as inv, _∙_, subst}
+use mathlib.Core.Path.{_≡_, refl, sym as inv, ap, _∙_, subst}
 use mathlib.Core.Logic.{_⊎_, inl, inr}
 use mathlib.Core.List.{List, [], _∷_, _++_}
 use mathlib.Core.Bool.{Bool, true, false, _&&_, _||_, cond, false≢true}
@@ -160,6 +160,19 @@ module _ (b : ℕ → Bool) (f : ℕ → ℕ) where
             | yes l ↦ inr (record { pick = c .pick; below = omega (arith, c .below); passes = c .passes; is = omega (arith, c .is, l) })
             | no l ↦ inr (record { pick = n; below = omega arith; passes = e; is = omega (arith, l) })
           ]
+
+-- LAW: numbers that do not pass the test bring nothing to the least nor to the most
+pub skipped : (b : ℕ → Bool) (f : ℕ → ℕ) (m n : ℕ) → m ≤ n → ((s : ℕ) → m ≤ s → s < n → b s ≡ false)
+    → (fewest b f n ≡ fewest b f m) × (most b f n ≡ most b f m)
+skipped b f m zero l fails = let e : zero ≡ m = omega arith in (ap (fewest b f) e, ap (most b f) e)
+skipped b f m (suc n) l fails = go (decLt n m) (λ h. skipped b f m n h (λ s a l. fails s a (omega arith)))
+  where
+    go : Dec (n < m) → (m ≤ n → (fewest b f n ≡ fewest b f m) × (most b f n ≡ most b f m))
+        → (fewest b f (suc n) ≡ fewest b f m) × (most b f (suc n) ≡ most b f m)
+    go (yes h) before = let e : suc n ≡ m = omega arith in (ap (fewest b f) e, ap (most b f) e)
+    go (no h) before =
+        let same = before (omega arith) in
+        rw (fails n (omega arith) (omega arith)) (omega (arith, same .0, lowest-top n (λ s. cond (b s) (f s) 1000)), omega (arith, same .1))
 
 -- a choice for each number below n, as one function
 pub choose : (n : ℕ) (P : ℕ → ℕ → Type 0) → ((k : ℕ) → k < n → (s : ℕ) × P k s) → (φ : ℕ → ℕ) × ((k : ℕ) → k < n → P k (φ k))

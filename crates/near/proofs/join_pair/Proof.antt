@@ -16,8 +16,10 @@ same-length c = search needs
 
 returns : tie.Need-returns
 returns c =
-    let a = c .before .before .before .before .before .before .before .before .before .before .before .args in
-    pair-joined (a .cut) (a .pair .lower) (a .pair .higher) (a .pair .degree) _ _ _ (omega arith) (c .before .before .before .before .before .before .join .ensures) (c .before .before .join2 .ensures)
+    let second = c .before .before in
+    let first = second .before .before .before .before in
+    let a = first .before .before .before .before .before .args in
+    pair-joined (a .cut) (a .pair .lower) (a .pair .higher) (a .pair .degree) _ _ _ (omega arith) (first .join .ensures) (second .join2 .ensures)
 
 returns-2 : tie.Need-returns-2
 returns-2 c =

@@ -1,8 +1,7 @@
--- What is kept is at most 1000, so the degree is what 1000 is above it.
+-- What is kept is at most 1002, so the degree is what 1002 is above it.
 use borrow.Author.Needs.{needs}
 use mathlib.Core.Path.{refl}
-use native.Mathlib.Omega.{arith}
-use Rattle.near.specs.Near.{farthest}
+use Rattle.near.specs.Near.{kept}
 use Rattle.near.proofs.lowest_of.Statement.{statement}
 use Rattle.near.proofs.lowest_of.Tie as tie
 
@@ -18,16 +17,15 @@ mul-result-2 c = search needs
 shared-slice-read-result : tie.Need-shared-slice-read-result
 shared-slice-read-result c = search needs
 
-cast-result : tie.Need-cast-result
-unfolding farthest
-cast-result c = omega (arith, c .before .pre .1)
-
 sub-result : tie.Need-sub-result
-unfolding farthest
-sub-result c = omega (arith, c .before .pre .1)
+unfolding kept
+sub-result c = c .before .pre .2
+
+cast-result : tie.Need-cast-result
+cast-result c = search needs
 
 returns : tie.Need-returns
-unfolding farthest
+unfolding kept
 returns c = refl
 
 pub lowest-of-spec : {M : Type 1} → statement M
@@ -38,6 +36,6 @@ lowest-of-spec =
     add-result
     mul-result-2
     shared-slice-read-result
-    cast-result
     sub-result
+    cast-result
     returns)

@@ -1,23 +1,17 @@
--- The row holds what the pairs bring, and the symbol itself joins it.
+-- The words that are read are those of h, and tell what its set has.
 use borrow.Author.Needs.{needs}
-use mathlib.Core.Path.{ap₂, _∙_}
-use mathlib.Core.Bool.{_||_}
-use Rattle.near.specs.Near.{inNear}
+use Rattle.near.proofs.Laying.{words-hold}
 use Rattle.near.proofs.set_of.Statement.{statement}
 use Rattle.near.proofs.set_of.Tie as tie
 
-row-of-requires : tie.Need-row-of-requires
-row-of-requires c κs = search needs
+mul-read : tie.Need-mul-read
+mul-read c = search needs
 
-of-requires : tie.Need-of-requires
-of-requires c κs = search needs
-
-join-requires : tie.Need-join-requires
-join-requires c κs = search needs
+read-requires : tie.Need-read-requires
+read-requires c κs = search needs
 
 returns : tie.Need-returns
-unfolding inNear
-returns c k l = c .join .ensures k ∙ ap₂ _||_ (c .before .before .row-of .ensures k l) (c .before .of .ensures k)
+returns c = let a = c .before .before .args in words-hold (a .near .now) (a .h) _ (c .read .ensures)
 
 pub set-of-spec : {M : Type 1} → statement M
-set-of-spec = tie.close (tie.spec row-of-requires of-requires join-requires returns)
+set-of-spec = tie.close (tie.spec mul-read read-requires returns)

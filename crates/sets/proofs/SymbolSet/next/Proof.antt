@@ -1,91 +1,13 @@
--- The loop has found no member so far, and goes on from one word's end to the next; a word that is not used up has the next member.
+-- The words of the set are lent to the search.
 use borrow.Author.Needs.{needs}
-use Prim.Native.Nat.{_-_, _≤_}
-use native.Mathlib.Omega.{arith}
-use lib.Count.{trailing-le}
-use Rattle.meaning.specs.Limits.{wordBits, setWords, setRoom}
-use Rattle.sets.specs.Words.{NoneBetween}
-use Rattle.sets.proofs.Laws.{words-of}
-use Rattle.sets.proofs.Next.{restAt, pass-word, found-in-word}
 use Rattle.sets.proofs.SymbolSet.next.Statement.{statement}
 use Rattle.sets.proofs.SymbolSet.next.Tie as tie
 
-abbrev Inv-loop : tie.InvT-loop
-Inv-loop from end words k₀ k = (from ≤ k) × (k ≤ setRoom) × NoneBetween words from k
+next-member-requires : tie.Need-next-member-requires
+next-member-requires c κs = search needs
 
-abbrev μ-loop : tie.MeasureT-loop
-μ-loop from end words k₀ k = setRoom - k
-
-loop-holds : tie.Need-loop-holds Inv-loop μ-loop
-loop-holds c = (omega arith, omega arith, λ k l m. absurd (omega arith))
-
-cast-rest : tie.Need-cast-rest Inv-loop μ-loop
-cast-rest c = search needs
-
-mul-rest : tie.Need-mul-rest Inv-loop μ-loop
-mul-rest c = search needs
-
-array-read-rest : tie.Need-array-read-rest Inv-loop μ-loop
-array-read-rest c = search needs
-
-cast-rest-2 : tie.Need-cast-rest-2 Inv-loop μ-loop
-cast-rest-2 c = search needs
-
-shr-rest : tie.Need-shr-rest Inv-loop μ-loop
-shr-rest c = search needs
-
-cast-result : tie.Need-cast-result Inv-loop μ-loop
-cast-result c =
-    search (needs, trailing-le wordBits (restAt (c .before .before .before .before .args .self .words) (c .before .before .loop .k)))
-
-add-result : tie.Need-add-result Inv-loop μ-loop
-add-result c =
-    search (needs, trailing-le wordBits (restAt (c .before .before .before .before .args .self .words) (c .before .before .loop .k)))
-
-returns : tie.Need-returns Inv-loop μ-loop
-returns c =
-    let a = c .before .before .before .before .args in
-    let loop = c .before .before .loop in
-    let found = found-in-word (a .self .words) (a .from) (loop .k) setWords (search (needs, words-of)) (omega arith) (omega arith) (omega (arith, c .if1 .taken)) (loop .inv .2) in
-    record { not-below = found .not-below; room = found .room; none = found .none; is = λ l. found .is (omega arith) }
-
-add-k : tie.Need-add-k Inv-loop μ-loop
-add-k c = search needs
-
-mul-k : tie.Need-mul-k Inv-loop μ-loop
-mul-k c = search needs
-
-loop-less : tie.Need-loop-less Inv-loop μ-loop
-loop-less c = search needs
-
-loop-again : tie.Need-loop-again Inv-loop μ-loop
-loop-again c =
-    let a = c .before .before .before .before .args in
-    let loop = c .before .before .loop in
-    (omega arith, omega arith, pass-word (a .self .words) (a .from) (loop .k) (c .if1 .left) (loop .inv .2))
-
-returns-2 : tie.Need-returns-2 Inv-loop μ-loop
-returns-2 c =
-    let loop = c .before .loop in
-    record { not-below = loop .inv .0; room = loop .inv .1; none = loop .inv .2; is = λ l. absurd (omega arith) }
+returns : tie.Need-returns
+returns c = search needs
 
 pub next-spec : {M : Type 1} → statement M
-next-spec =
-    tie.close
-    (tie.spec
-    Inv-loop
-    μ-loop
-    loop-holds
-    cast-rest
-    mul-rest
-    array-read-rest
-    cast-rest-2
-    shr-rest
-    cast-result
-    add-result
-    returns
-    add-k
-    mul-k
-    loop-less
-    loop-again
-    returns-2)
+next-spec = tie.close (tie.spec next-member-requires returns)
