@@ -1,23 +1,35 @@
-// The match in memory of its own size, for input that is accepted: near sets by the table's size, and notes by the pattern's length. Neither
-// grows with the other, so that a small pattern does not pay for clearing what only a large one needs, nor a small table for a large one's.
+// The match in memory of its own size, for input that is accepted: near sets and the index of the pairs by the table's size, and notes by the pattern's
+// length. Neither grows with the other, so that a small pattern does not pay for what only a large one needs, nor a small table for a large one's.
 ghost use mathlib.Core.Path.{_≡_};
+ghost use mathlib.Core.Bool.{true};
 ghost use Prim.Native.Nat.{_≤_};
 ghost use lib.ListN.{length};
-ghost use Rattle.meaning.specs.File.{tableIn};
+ghost use Rattle.meaning.specs.File.{pairCount, tableIn};
 ghost use Rattle.meaning.specs.Calls.{matchCall};
 ghost use Rattle.meaning.specs.Demands.{Accepted};
 ghost use Rattle.near.specs.Near.{Fresh};
+ghost use Rattle.wide.specs.Index.{indexRoom};
 ghost use Rattle.refusal.specs.Outcomes.{resultOf};
 use matching::search::search;
 use near::NEAR_WORDS;
+use near::NOT_GATHERED;
 use refusal::Outcome;
 use sets::SymbolSet;
-use table::read::symbol_count;
+use table::read::Counts;
+use table::read::counts_of;
 
-// The symbols of a small table, and of one that is not yet large.
+// What stands in memory before it is written. Nothing reads it; it is no 0, since zeros are laid byte by byte where other numbers are laid by
+// whole words.
+const UNWRITTEN: u16 = 1;
+
+// The symbols and the pairs of a small table, the symbols of one that is not yet large, and the pairs of any.
 const FEW_SYMBOLS: u16 = 16;
 
+const FEW_PAIRS: u16 = 128;
+
 const MORE_SYMBOLS: u16 = 256;
+
+const ALL_PAIRS: usize = 8192;
 
 // Near sets for so many symbols, and for as many as a table may have.
 const FEW_NEAR: usize = FEW_SYMBOLS as usize * NEAR_WORDS;
@@ -26,10 +38,19 @@ const MORE_NEAR: usize = MORE_SYMBOLS as usize * NEAR_WORDS;
 
 const ALL_NEAR: usize = SymbolSet::ROOM as usize * NEAR_WORDS;
 
-// The nodes of a small pattern, and of any pattern.
+// The index of as many: two numbers of its row and one head of a chain for each symbol, a mark, and a link for each pair.
+const FEW_INDEX: usize = 3 * FEW_SYMBOLS as usize + 1 + FEW_PAIRS as usize;
+
+const MORE_INDEX: usize = 3 * MORE_SYMBOLS as usize + 1 + ALL_PAIRS;
+
+const ALL_INDEX: usize = 3 * SymbolSet::ROOM as usize + 1 + ALL_PAIRS;
+
+// The nodes of a small pattern, and the notes of them, two numbers each, and of any pattern's.
 const FEW_NODES: usize = 64;
 
-const ALL_NODES: usize = 1024;
+const FEW_NOTES: usize = 2 * FEW_NODES;
+
+const ALL_NOTES: usize = 2 * 1024;
 
 // The match with notes for a small pattern.
 fn with_few_notes(
@@ -38,28 +59,26 @@ fn with_few_notes(
     heading: &[u16],
     cut: u16,
     near: &mut [u64],
+    index: &mut [u16],
     spans: &mut [u16],
     sets: &mut [u64],
 ) -> Outcome
     requires { ⌜ length (now pattern) ≤ 64 ⌝ }
     requires { ⌜ Accepted (now table) (now pattern) (now heading) cut (now spans) (now sets) ⌝ }
-    requires { ⌜ Fresh (tableIn (now table)) (now near) ⌝ }
+    requires { ⌜ Fresh (tableIn (now table)) (now near) × (indexRoom (now table) ≤ length (now index)) ⌝ }
     ensures { λ r. ⌜ resultOf r (now (spans .exit)) (now (sets .exit)) ≡ matchCall (now (table .entry)) (now (pattern .entry)) (now (heading .entry)) cut (now (spans .entry)) (now (sets .entry)) ⌝ }
 {
-    let mut starts = [0u16; FEW_NODES];
-    let mut sizes = [0u16; FEW_NODES];
-    let mut own_starts = [0u16; FEW_NODES];
-    let mut own_sizes = [0u16; FEW_NODES];
+    let mut notes = [UNWRITTEN; FEW_NOTES];
+    let mut own = [UNWRITTEN; FEW_NOTES];
     search(
         table,
         pattern,
         heading,
         cut,
-        &mut starts,
-        &mut sizes,
         near,
-        &mut own_starts,
-        &mut own_sizes,
+        index,
+        &mut notes,
+        &mut own,
         spans,
         sets,
     )
@@ -72,55 +91,54 @@ fn with_all_notes(
     heading: &[u16],
     cut: u16,
     near: &mut [u64],
+    index: &mut [u16],
     spans: &mut [u16],
     sets: &mut [u64],
 ) -> Outcome
     requires { ⌜ Accepted (now table) (now pattern) (now heading) cut (now spans) (now sets) ⌝ }
-    requires { ⌜ Fresh (tableIn (now table)) (now near) ⌝ }
+    requires { ⌜ Fresh (tableIn (now table)) (now near) × (indexRoom (now table) ≤ length (now index)) ⌝ }
     ensures { λ r. ⌜ resultOf r (now (spans .exit)) (now (sets .exit)) ≡ matchCall (now (table .entry)) (now (pattern .entry)) (now (heading .entry)) cut (now (spans .entry)) (now (sets .entry)) ⌝ }
 {
-    let mut starts = [0u16; ALL_NODES];
-    let mut sizes = [0u16; ALL_NODES];
-    let mut own_starts = [0u16; ALL_NODES];
-    let mut own_sizes = [0u16; ALL_NODES];
+    let mut notes = [UNWRITTEN; ALL_NOTES];
+    let mut own = [UNWRITTEN; ALL_NOTES];
     search(
         table,
         pattern,
         heading,
         cut,
-        &mut starts,
-        &mut sizes,
         near,
-        &mut own_starts,
-        &mut own_sizes,
+        index,
+        &mut notes,
+        &mut own,
         spans,
         sets,
     )
 }
 
-// The match with notes for its pattern, in near sets that have room for its table.
+// The match with notes for its pattern, in memory that has room for its table.
 fn search_in(
     table: &[u8],
     pattern: &[u16],
     heading: &[u16],
     cut: u16,
     near: &mut [u64],
+    index: &mut [u16],
     spans: &mut [u16],
     sets: &mut [u64],
 ) -> Outcome
     requires { ⌜ Accepted (now table) (now pattern) (now heading) cut (now spans) (now sets) ⌝ }
-    requires { ⌜ Fresh (tableIn (now table)) (now near) ⌝ }
+    requires { ⌜ Fresh (tableIn (now table)) (now near) × (indexRoom (now table) ≤ length (now index)) ⌝ }
     ensures { λ r. ⌜ resultOf r (now (spans .exit)) (now (sets .exit)) ≡ matchCall (now (table .entry)) (now (pattern .entry)) (now (heading .entry)) cut (now (spans .entry)) (now (sets .entry)) ⌝ }
 {
     if pattern.len() <= FEW_NODES {
-        with_few_notes(table, pattern, heading, cut, near, spans, sets)
+        with_few_notes(table, pattern, heading, cut, near, index, spans, sets)
     } else {
-        with_all_notes(table, pattern, heading, cut, near, spans, sets)
+        with_all_notes(table, pattern, heading, cut, near, index, spans, sets)
     }
 }
 
 // The match over a small table.
-fn with_few_sets(
+fn over_small(
     table: &[u8],
     pattern: &[u16],
     heading: &[u16],
@@ -128,16 +146,26 @@ fn with_few_sets(
     spans: &mut [u16],
     sets: &mut [u64],
 ) -> Outcome
-    requires { ⌜ tableIn (now table) .size ≤ 16 ⌝ }
+    requires { ⌜ (tableIn (now table) .size ≤ 16) × (pairCount (now table) ≤ 128) ⌝ }
     requires { ⌜ Accepted (now table) (now pattern) (now heading) cut (now spans) (now sets) ⌝ }
     ensures { λ r. ⌜ resultOf r (now (spans .exit)) (now (sets .exit)) ≡ matchCall (now (table .entry)) (now (pattern .entry)) (now (heading .entry)) cut (now (spans .entry)) (now (sets .entry)) ⌝ }
 {
-    let mut near = [0u64; FEW_NEAR];
-    search_in(table, pattern, heading, cut, &mut near, spans, sets)
+    let mut near = [NOT_GATHERED; FEW_NEAR];
+    let mut index = [UNWRITTEN; FEW_INDEX];
+    search_in(
+        table,
+        pattern,
+        heading,
+        cut,
+        &mut near,
+        &mut index,
+        spans,
+        sets,
+    )
 }
 
 // The match over a table that is not yet large.
-fn with_more_sets(
+fn over_middling(
     table: &[u8],
     pattern: &[u16],
     heading: &[u16],
@@ -149,12 +177,22 @@ fn with_more_sets(
     requires { ⌜ Accepted (now table) (now pattern) (now heading) cut (now spans) (now sets) ⌝ }
     ensures { λ r. ⌜ resultOf r (now (spans .exit)) (now (sets .exit)) ≡ matchCall (now (table .entry)) (now (pattern .entry)) (now (heading .entry)) cut (now (spans .entry)) (now (sets .entry)) ⌝ }
 {
-    let mut near = [0u64; MORE_NEAR];
-    search_in(table, pattern, heading, cut, &mut near, spans, sets)
+    let mut near = [NOT_GATHERED; MORE_NEAR];
+    let mut index = [UNWRITTEN; MORE_INDEX];
+    search_in(
+        table,
+        pattern,
+        heading,
+        cut,
+        &mut near,
+        &mut index,
+        spans,
+        sets,
+    )
 }
 
 // The match over any table.
-fn with_all_sets(
+fn over_any(
     table: &[u8],
     pattern: &[u16],
     heading: &[u16],
@@ -165,8 +203,28 @@ fn with_all_sets(
     requires { ⌜ Accepted (now table) (now pattern) (now heading) cut (now spans) (now sets) ⌝ }
     ensures { λ r. ⌜ resultOf r (now (spans .exit)) (now (sets .exit)) ≡ matchCall (now (table .entry)) (now (pattern .entry)) (now (heading .entry)) cut (now (spans .entry)) (now (sets .entry)) ⌝ }
 {
-    let mut near = [0u64; ALL_NEAR];
-    search_in(table, pattern, heading, cut, &mut near, spans, sets)
+    let mut near = [NOT_GATHERED; ALL_NEAR];
+    let mut index = [UNWRITTEN; ALL_INDEX];
+    search_in(
+        table,
+        pattern,
+        heading,
+        cut,
+        &mut near,
+        &mut index,
+        spans,
+        sets,
+    )
+}
+
+// Whether a table is small.
+fn is_small(counts: Counts) -> bool
+    ensures { λ r. ⌜ (r ≡ true → (counts .symbols ≤ 16) × (counts .pairs ≤ 128)) ⌝ }
+{
+    if counts.symbols > FEW_SYMBOLS {
+        return false;
+    }
+    counts.pairs <= FEW_PAIRS
 }
 
 // The match in memory of its own size.
@@ -181,12 +239,12 @@ pub fn search_sound(
     requires { ⌜ Accepted (now table) (now pattern) (now heading) cut (now spans) (now sets) ⌝ }
     ensures { λ r. ⌜ resultOf r (now (spans .exit)) (now (sets .exit)) ≡ matchCall (now (table .entry)) (now (pattern .entry)) (now (heading .entry)) cut (now (spans .entry)) (now (sets .entry)) ⌝ }
 {
-    let symbols = symbol_count(table);
-    if symbols <= FEW_SYMBOLS {
-        return with_few_sets(table, pattern, heading, cut, spans, sets);
+    let counts = counts_of(table);
+    if is_small(counts) {
+        return over_small(table, pattern, heading, cut, spans, sets);
     }
-    if symbols <= MORE_SYMBOLS {
-        return with_more_sets(table, pattern, heading, cut, spans, sets);
+    if counts.symbols <= MORE_SYMBOLS {
+        return over_middling(table, pattern, heading, cut, spans, sets);
     }
-    with_all_sets(table, pattern, heading, cut, spans, sets)
+    over_any(table, pattern, heading, cut, spans, sets)
 }

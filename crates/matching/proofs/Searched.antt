@@ -103,7 +103,7 @@ module _ (table pattern heading : List ℕ) (cut : ℕ) (spans sets : List ℕ) 
     pattern-few = read-few table (fit .sound) true pattern (fit .pattern-reads)
 
     -- LAW: what packing asks for
-    pub packable : {degree : ℕ} {starts sizes : List ℕ} → ClearBy table cut pattern heading degree starts sizes → Packable table pattern heading cut starts sizes
+    pub packable : {degree : ℕ} {notes : List ℕ} → ClearBy table cut pattern heading degree notes → Packable table pattern heading cut notes
     packable c =
         record {
           sound = fit .sound;

@@ -7,12 +7,12 @@ ghost use Rattle.meaning.specs.File.{tableIn};
 ghost use Rattle.meaning.specs.Calls.{matchCall};
 ghost use Rattle.meaning.specs.Demands.{Accepted};
 ghost use Rattle.near.specs.Near.{Fresh};
-ghost use Rattle.facing.specs.Faced.{ClearBy};
-ghost use Rattle.packing.specs.Pack.{Room};
+ghost use Rattle.wide.specs.Index.{indexRoom};
 ghost use Rattle.refusal.specs.Outcomes.{resultOf};
 ghost use Rattle.matching.specs.Outcomes.{emptied, outcomeOf};
 use crate::clear::clear_numbers;
 use crate::clear::clear_words;
+use crate::gathering::gather_near;
 use facing::faces::Facing;
 use facing::faces::face;
 use packing::Search;
@@ -20,6 +20,7 @@ use packing::pack;
 use refusal::Outcome;
 use refusal::Refusal;
 use sets::SymbolSet;
+use wide::links::open_index;
 
 // Refused by the search, which leaves zeros in both buffers.
 fn refuse(why: Refusal, spans: &mut [u16], sets: &mut [u64]) -> Outcome
@@ -42,81 +43,44 @@ fn settle(found: Search, spans: &mut [u16], sets: &mut [u64]) -> Outcome
     Outcome::Match(found.lowest, found.highest)
 }
 
-// The match where nothing clashes.
-fn search_variables(
-    table: &[u8],
-    pattern: &[u16],
-    heading: &[u16],
-    cut: u16,
-    starts: &[u16],
-    sizes: &[u16],
-    least: u16,
-    near: &mut [u64],
-    own_starts: &mut [u16],
-    own_sizes: &mut [u16],
-    spans: &mut [u16],
-    sets: &mut [u64],
-) -> Outcome
-    requires { ⌜ Accepted (now table) (now pattern) (now heading) cut (now spans) (now sets) ⌝ }
-    requires { ⌜ Fresh (tableIn (now table)) (now near) ⌝ }
-    requires { ⌜ ClearBy (now table) cut (now pattern) (now heading) least (now starts) (now sizes) ⌝ }
-    requires { ⌜ Room (now pattern) (now heading) (now starts) (now sizes) (now «own_starts») (now «own_sizes») (now spans) (now sets) ⌝ }
-    ensures { λ r. ⌜ resultOf r (now (spans .exit)) (now (sets .exit)) ≡ matchCall (now (table .entry)) (now (pattern .entry)) (now (heading .entry)) cut (now (spans .entry)) (now (sets .entry)) ⌝ }
-{
-    clear_numbers(spans, 0);
-    let found = pack(
-        table,
-        pattern,
-        heading,
-        cut,
-        starts,
-        sizes,
-        least,
-        near,
-        own_starts,
-        own_sizes,
-        spans,
-        sets,
-    );
-    settle(found, spans, sets)
-}
-
-// The match. What faces the pattern's nodes, and then one variable, is noted in the four lists that are lent for it, and `near` for the near
-// sets.
+// The match. It is lent memory for near sets, for the index of the table's pairs, for notes of what faces the pattern's nodes, and for those of one
+// variable at a time.
 pub fn search(
     table: &[u8],
     pattern: &[u16],
     heading: &[u16],
     cut: u16,
-    starts: &mut [u16],
-    sizes: &mut [u16],
     near: &mut [u64],
-    own_starts: &mut [u16],
-    own_sizes: &mut [u16],
+    index: &mut [u16],
+    notes: &mut [u16],
+    own: &mut [u16],
     spans: &mut [u16],
     sets: &mut [u64],
 ) -> Outcome
     requires { ⌜ Accepted (now table) (now pattern) (now heading) cut (now spans) (now sets) ⌝ }
-    requires { ⌜ Fresh (tableIn (now table)) (now near) ⌝ }
-    requires { ⌜ (length (now pattern) ≤ length (now starts)) × (length (now pattern) ≤ length (now sizes)) ⌝ }
-    requires { ⌜ (length (now pattern) ≤ length (now «own_starts»)) × (length (now pattern) ≤ length (now «own_sizes»)) ⌝ }
+    requires { ⌜ Fresh (tableIn (now table)) (now near) × (indexRoom (now table) ≤ length (now index)) ⌝ }
+    requires { ⌜ (2 * length (now pattern) ≤ length (now notes)) × (2 * length (now pattern) ≤ length (now own)) ⌝ }
     ensures { λ r. ⌜ resultOf r (now (spans .exit)) (now (sets .exit)) ≡ matchCall (now (table .entry)) (now (pattern .entry)) (now (heading .entry)) cut (now (spans .entry)) (now (sets .entry)) ⌝ }
 {
-    match face(table, pattern, heading, cut, starts, sizes) {
+    open_index(table, index);
+    match face(table, pattern, heading, cut, index, notes) {
         Facing::Clash(node) => refuse(Refusal::Clash(node as u16), spans, sets),
-        Facing::Clear(least) => search_variables(
-            table,
-            pattern,
-            heading,
-            cut,
-            starts,
-            sizes,
-            least,
-            near,
-            own_starts,
-            own_sizes,
-            spans,
-            sets,
-        ),
+        Facing::Clear(least) => {
+            gather_near(table, pattern, heading, cut, near);
+            clear_numbers(spans, 0);
+            let found = pack(
+                table,
+                pattern,
+                heading,
+                near,
+                index,
+                notes,
+                own,
+                least,
+                spans,
+                sets,
+            );
+            settle(found, spans, sets)
+        }
     }
 }

@@ -82,7 +82,7 @@ module _ (table pattern heading : List ℕ) (cut : ℕ) where
       let fs = facesIn table pattern heading in
       Searched (tableIn table) cut fs (order (take i fs)) n before search spans sets
 
-module _ {table pattern heading : List ℕ} {cut : ℕ} {starts sizes : List ℕ} (k : Packable table pattern heading cut starts sizes) where
+module _ {table pattern heading : List ℕ} {cut : ℕ} {notes : List ℕ} (k : Packable table pattern heading cut notes) where
   abbrev T : Table
   T = tableIn table
 
@@ -153,6 +153,6 @@ module _ {table pattern heading : List ℕ} {cut : ℕ} {starts sizes : List ℕ
 
       -- LAW: once it is packed
       pub along-new : {v : ℕ} {after : Search} {spans′ sets′ : List ℕ} → NewAt T fs (length heading) i v (search .packed) → setWords * length heading ≤ length before
-          → PackedNext T cut fs v search after spans spans′ sets sets′ → Done (i + 1) n before after spans′ sets′
+          → PackedNext T cut (facing v fs) v search after spans spans′ sets sets′ → Done (i + 1) n before after spans′ sets′
       along-new {v} w r p =
           rw (order-new (w .gathers) (w .new)) (searched-next T cut fs n before (order (take i fs)) v h (w .new) (w .below) (omega (arith, w .fits)) p)

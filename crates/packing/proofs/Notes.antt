@@ -1,80 +1,96 @@
 -- What packing is given, in the words of the laws that it needs: the heading is short, every node of the pattern faces something, and the
 -- notes gathered for a variable that stands in the pattern are of one subterm or more, each inside the heading.
 use mathlib.Core.Path.{_≡_, refl, sym as inv, ap, _∙_}
-use mathlib.Core.List.{List, [], _∷_}
+use mathlib.Core.List.{List, [], _∷_, _++_, append-assoc, append-nil}
 use mathlib.Core.Bool.{Bool, cond}
-use Prim.Native.Nat.{ℕ, _+_, _*_, _≤_, _<_, min}
+use Prim.Native.Nat.{ℕ, _+_, _-_, _*_, _≤_, _<_, min}
 use native.Mathlib.Nat.{not-suc-le-zero, zero-add}
 use native.Mathlib.Omega.{arith}
-use lib.ListN.{length, getD}
-use lib.Seq.{take-all}
+use lib.ListN.{length, getD, take, drop, length-drop}
+use lib.Seq.{take-all, drop-length, length-take-le, drop-drop}
+use borrow.Rule.Slice.PartMut.{putMid, post-is}
 use Rattle.theory.specs.Tree.{Term}
 use Rattle.theory.specs.Table.{Table}
 use Rattle.theory.specs.Least.{least}
-use Rattle.theory.specs.Faces.{Face, facing}
-use Rattle.theory.specs.Match.{size, positions}
-use Rattle.theory.specs.Stands.{Gathered}
+use Rattle.theory.specs.Faces.{facing}
+use Rattle.theory.specs.Match.{size, positions, inSet}
+use Rattle.theory.specs.Stands.{sizeOf, Gathered}
 use Rattle.theory.specs.Decode.{termOf}
 use Rattle.theory.proofs.Decoding.{heading-of}
 use Rattle.theory.proofs.Draw.{over-at}
 use Rattle.theory.proofs.Gathered.{at-node}
+use Rattle.theory.proofs.Noted.{gathered-front}
 use Rattle.theory.proofs.Along.{Readable, Faced}
-use Rattle.meaning.specs.Limits.{spanWidth}
+use Rattle.meaning.specs.Limits.{setWords, spanWidth}
 use Rattle.meaning.specs.File.{tableIn}
-use Rattle.meaning.specs.Packing.{countOf}
+use Rattle.meaning.specs.Packing.{through, countOf, allWords}
 use Rattle.meaning.specs.Calls.{facesIn}
 use Rattle.meaning.specs.Search.{symbolWorth}
 use Rattle.meaning.specs.Over.{over}
 use Rattle.meaning.proofs.Sound.{sound}
 use Rattle.near.specs.Near.{nearWords, NearSets}
 use Rattle.facing.specs.Faced.{ClearBy}
-use Rattle.positions.specs.Facing.{Within, Covers, NearOf}
 use Rattle.facing.specs.Gathering.{GatheredBy}
-use Rattle.variable.specs.Variable.{PackedTo}
-use Rattle.packing.specs.Pack.{Packable, Room, PackedNext}
-use Rattle.packing.specs.declared.Search.{Search}
 use Rattle.facing.proofs.Faced.{faced-in, gathered-in}
 use Rattle.facing.proofs.Passing.{readable, few-nodes}
+use Rattle.positions.specs.Position.{noteCount, Covers, NearOf}
+use Rattle.variable.specs.Variable.{PackedTo, OwnNotes}
 use Rattle.variable.proofs.Positions.{positions-first}
+use Rattle.packing.specs.Pack.{Packable, PackedNext}
+use Rattle.packing.specs.declared.Search.{Search}
+
+-- ---- the rest of a list, lent as a part
+
+module _ (out : List ℕ) (at : ℕ) (inside : at ≤ length out) where
+  -- LAW: what is lent
+  pub rest-lent : take (length out - at) (drop at out) ≡ drop at out
+  rest-lent = take-all (length out - at) (drop at out) (omega (arith, length-drop at out))
+
+  -- LAW: once it is back, with numbers at its front, these lie over the list
+  pub rest-back : (xs : List ℕ) → putMid at (length out - at) out (over (drop at out) 0 xs) ≡ over out at xs
+  unfolding over
+  rest-back xs =
+      ap (λ (r : List ℕ). take at out ++ ((xs ++ drop (0 + length xs) (drop at out)) ++ r)) (post-is at (length out) out inside ∙ drop-length out)
+      ∙ ap (λ (r : List ℕ). take at out ++ r) (append-nil (xs ++ drop (0 + length xs) (drop at out)))
+      ∙ ap (λ (r : List ℕ). take at out ++ (xs ++ r)) (ap (λ (n : ℕ). drop n (drop at out)) (zero-add (length xs)) ∙ drop-drop (length xs) at out)
+      ∙ inv (append-assoc (take at out) xs (drop (at + length xs) out))
 
 -- ---- the notes of one variable
 
--- terms that have positions are some
-some-terms : {list starts sizes : List ℕ} {n : ℕ} (ts : List Term) → Gathered list starts sizes n ts → 0 < positions ts → 0 < n
-some-terms [] g l = absurd (not-suc-le-zero l)
-some-terms (t ∷ ts) g l = omega (arith, g .count)
-
--- the notes are of these terms, and the variable that they face can be packed with them
-pub record OwnNotes (heading starts sizes : List ℕ) (n : ℕ) (ts : List Term) : Type 0 where
-  pub gathered : Gathered heading starts sizes n ts
-  pub within : Within heading starts sizes n
-  pub some : 0 < n
-  pub first : positions ts ≡ getD sizes 0 0
-
--- LAW: once it is
-pub noted-next : {T : Table} {cut : ℕ} {fs : List Face} {v n : ℕ} {heading starts sizes : List ℕ} {search after : Search} {spans spans′ sets sets′ : List ℕ} {form : Bool} {low high : ℕ}
-    → OwnNotes heading starts sizes n (facing v fs) → PackedTo T cut (facing v fs) (search .packed) (countOf fs v) sets sets′ form low high
-    → after .packed ≡ search .packed + getD sizes 0 0 → after .lacking ≡ cond form (search .lacking) (min (search .lacking) v)
+-- LAW: once it is packed
+pub noted-next : {T : Table} {cut : ℕ} {ts : List Term} {v first : ℕ} {search after : Search} {spans spans′ sets part sets′ : List ℕ} {form : Bool} {low high : ℕ}
+    → setWords * search .packed ≤ length sets
+    → PackedTo T cut ts (positions ts) (take (length sets - setWords * search .packed) (drop (setWords * search .packed) sets)) part form low high
+    → sets′ ≡ putMid (setWords * search .packed) (length sets - setWords * search .packed) sets part → positions ts ≡ first
+    → after .packed ≡ search .packed + first → after .lacking ≡ cond form (search .lacking) (min (search .lacking) v)
     → after .lowest ≡ min (search .lowest) low → after .highest ≡ min (search .highest) high
-    → spans′ ≡ over spans (spanWidth * v) (search .packed ∷ getD sizes 0 0 ∷ low ∷ high ∷ [])
-    → PackedNext T cut fs v search after spans spans′ sets sets′
-noted-next {v = v} {search = search} {spans = spans} notes p many lacks lows highs span =
+    → spans′ ≡ over spans (spanWidth * v) (search .packed ∷ first ∷ low ∷ high ∷ [])
+    → PackedNext T cut ts v search after spans spans′ sets sets′
+noted-next {T} {cut} {ts} {v} {search = search} {spans = spans} {sets = sets} room p laid is many lacks lows highs span =
     record {
-      packed = many ∙ ap (λ n. search .packed + n) (inv (notes .first));
+      packed = many ∙ ap (λ n. search .packed + n) (inv is);
       lacking = lacks ∙ ap (λ b. cond b (search .lacking) (min (search .lacking) v)) (p .forms);
       lowest = lows ∙ ap (min (search .lowest)) (p .at-worst);
       highest = highs ∙ ap (min (search .highest)) (p .at-best);
-      span = span ∙ numbers (inv (notes .first)) (p .at-worst) (p .at-best);
-      words = p .words;
+      span = span ∙ numbers (inv is) (p .at-worst) (p .at-best);
+      words = laid
+          ∙ ap (putMid at (length sets - at) sets) (p .words ∙ ap (λ l. over l 0 packed) (rest-lent sets at room))
+          ∙ rest-back sets at room packed;
     }
   where
+    at : ℕ
+    at = setWords * search .packed
+
+    packed : List ℕ
+    packed = allWords (through (positions ts) (λ k. inSet T cut ts k ∷ []))
+
     numbers : {n m l g l′ g′ : ℕ} → n ≡ m → l ≡ l′ → g ≡ g′
         → over spans (spanWidth * v) (search .packed ∷ n ∷ l ∷ g ∷ []) ≡ over spans (spanWidth * v) (search .packed ∷ m ∷ l′ ∷ g′ ∷ [])
     numbers a b c = cc
 
 -- ---- the notes of all
 
-module _ {table pattern heading : List ℕ} {cut : ℕ} {starts sizes : List ℕ} (k : Packable table pattern heading cut starts sizes) where
+module _ {table pattern heading : List ℕ} {cut : ℕ} {notes : List ℕ} (k : Packable table pattern heading cut notes) where
   pub reads : Readable (tableIn table) pattern heading
   reads = readable table pattern heading (k .sound) (k .pattern-reads) (k .heading-reads)
 
@@ -83,7 +99,7 @@ module _ {table pattern heading : List ℕ} {cut : ℕ} {starts sizes : List ℕ
   short = few-nodes reads
 
   -- LAW: every node of the heading is a symbol
-  symbols : (i : ℕ) → i < length heading → getD heading i 0 < tableIn table .size
+  pub symbols : (i : ℕ) → i < length heading → getD heading i 0 < tableIn table .size
   symbols i l =
       let T = tableIn table in
       let t = termOf T heading in
@@ -94,12 +110,15 @@ module _ {table pattern heading : List ℕ} {cut : ℕ} {starts sizes : List ℕ
       let here = ap (λ (j : ℕ). getD heading j 0) (zero-add i) in
       omega arith
 
-  module _ (near : List ℕ) (sets : NearSets (tableIn table) cut near) where
-    -- LAW: so the near sets of all symbols are enough
-    pub covers : nearWords * tableIn table .size ≤ length near → Covers heading near
-    covers room i l = (omega (arith, symbols i l), sets .within (getD heading i 0), omega (arith, symbols i l, sound table (k .sound) .small))
+  clear-by : ClearBy table cut pattern heading (least (symbolWorth (tableIn table)) (facesIn table pattern heading)) notes
+  clear-by = record { clear = k .clear; lowest = refl; noted = k .noted }
 
-    -- LAW: gathered for this table, they are its near sets at the cut
+  -- LAW: every node of the pattern faces something
+  pub nodes-face : Faced (tableIn table) pattern (facesIn table pattern heading) (length pattern)
+  nodes-face = faced-in table cut pattern heading notes reads (k .positive) clear-by
+
+  module _ {near : List ℕ} (room : nearWords * tableIn table .size ≤ length near) (sets : NearSets (tableIn table) cut heading near) where
+    -- LAW: the near sets are those of the table at the cut
     pub near-of : NearOf (tableIn table) cut near heading
     near-of =
         record {
@@ -111,36 +130,33 @@ module _ {table pattern heading : List ℕ} {cut : ℕ} {starts sizes : List ℕ
           symbols = symbols;
         }
 
-  clear-by : ClearBy table cut pattern heading (least (symbolWorth (tableIn table)) (facesIn table pattern heading)) starts sizes
-  clear-by = record { clear = k .clear; lowest = refl; noted = k .noted }
+    -- there is one for each symbol of the heading
+    covers : Covers heading near
+    covers i l =
+        (omega (arith, symbols i l), sets i l .gathered, sets i l .within, omega (arith, symbols i l, sound table (k .sound) .small))
 
-  -- LAW: every node of the pattern faces something
-  pub nodes-face : Faced (tableIn table) pattern (facesIn table pattern heading) (length pattern)
-  nodes-face = faced-in table cut pattern heading starts sizes reads (k .positive) clear-by
+    module _ {v n : ℕ} {own : List ℕ} (g : GatheredBy pattern notes v n own) (some : 0 < countOf (facesIn table pattern heading) v) (enough : 2 * n ≤ length own) where
+      abbrev part : List ℕ
+      part = take (2 * n) own
 
-  -- LAW: what is gathered for a variable that stands in the pattern
-  pub own-notes : {v n : ℕ} {toStarts toSizes : List ℕ} → GatheredBy pattern starts sizes v n toStarts toSizes → 0 < countOf (facesIn table pattern heading) v
-      → length pattern ≤ length toStarts → length pattern ≤ length toSizes → OwnNotes heading toStarts toSizes n (facing v (facesIn table pattern heading))
-  own-notes g l a b =
-      let got = gathered-in table cut pattern heading starts sizes reads (k .positive) clear-by g in
-      let some = some-terms _ got l in
-      record {
-        gathered = got;
-        within = record { started = omega (arith, g .few); sized = omega (arith, g .few); ends = λ o m. got .each o m .inside };
-        some = some;
-        first = positions-first got some;
-      }
+      count : noteCount part ≡ n
+      count = omega (arith, length-take-le (2 * n) own enough)
 
--- LAW: lists that are as long have as much room
-pub room-kept : {pattern heading starts sizes ownStarts ownSizes spans sets ownStarts′ ownSizes′ spans′ sets′ : List ℕ}
-    → Room pattern heading starts sizes ownStarts ownSizes spans sets → length ownStarts′ ≡ length ownStarts → length ownSizes′ ≡ length ownSizes
-    → length spans′ ≡ length spans → length sets′ ≡ length sets → Room pattern heading starts sizes ownStarts′ ownSizes′ spans′ sets′
-room-kept r a b c d =
-    record {
-      of-starts = r .of-starts;
-      of-sizes = r .of-sizes;
-      of-own-starts = omega (arith, r .of-own-starts);
-      of-own-sizes = omega (arith, r .of-own-sizes);
-      of-spans = omega (arith, r .of-spans);
-      of-sets = omega (arith, r .of-sets);
-    }
+      -- LAW: what is gathered for a variable that stands in the pattern is of the subterms that face it
+      pub gathered-own : Gathered heading part (noteCount part) (facing v (facesIn table pattern heading))
+      gathered-own = rw count (gathered-front (gathered-in table cut pattern heading notes reads (k .positive) clear-by g))
+
+      some-notes : 0 < noteCount part
+      some-notes = go (facing v (facesIn table pattern heading)) gathered-own some
+        where
+          go : (ts : List Term) → Gathered heading part (noteCount part) ts → 0 < positions ts → 0 < noteCount part
+          go [] h l = absurd (not-suc-le-zero l)
+          go (t ∷ ts) h l = omega (arith, h .count)
+
+      -- LAW: with these notes the variable can be packed, and has as many positions as the first subterm has nodes
+      pub own-notes : OwnNotes table near heading part
+      own-notes =
+          record { covers = covers; symbols = symbols; few = short; within = λ o l. gathered-own .each o l .inside; some = some-notes }
+
+      pub own-first : countOf (facesIn table pattern heading) v ≡ sizeOf part 0
+      own-first = positions-first gathered-own some-notes

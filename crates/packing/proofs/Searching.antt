@@ -53,7 +53,7 @@ module _ (T : Table) (cut : ℕ) (fs : List Face) (n : ℕ) (before : List ℕ) 
   -- LAW: one variable more
   pub searched-next : (vs : List ℕ) (v : ℕ) {search after : Search} {spans spans′ sets sets′ : List ℕ}
       → Searched T cut fs vs n before search spans sets → among v vs ≡ false → v < variableCount
-      → setWords * search .packed ≤ length before → PackedNext T cut fs v search after spans spans′ sets sets′
+      → setWords * search .packed ≤ length before → PackedNext T cut (facing v fs) v search after spans spans′ sets sets′
       → Searched T cut fs (vs ++ (v ∷ [])) n before after spans′ sets′
   searched-next vs v {search} h new l room p =
       record {

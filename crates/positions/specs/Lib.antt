@@ -1,2 +1,3 @@
 -- Names that contracts use.
-pub mod Facing
+pub mod Position
+pub mod Looked

@@ -6,15 +6,16 @@ use mathlib.Core.List.{List, [], _∷_, _++_}
 use mathlib.Core.Bool.{Bool, true, false, _&&_, not, cond, false≢true}
 use Prim.Native.Nat.{ℕ, zero, suc, _+_, _*_, _≤_, _<_, min}
 use native.Mathlib.Decide.{decLt}
+use native.Mathlib.Nat.{zero-add}
 use native.Mathlib.Numerals.{add-one}
 use native.Mathlib.Omega.{arith}
 use borrow.Author.Tests.{le-ltb}
-use lib.ListN.{length, getD}
+use lib.ListN.{length}
 use Rattle.theory.specs.Tree.{Term}
 use Rattle.theory.specs.Table.{Table}
 use Rattle.theory.specs.Least.{every, some}
 use Rattle.theory.specs.Match.{positions, inSet, lowestAt, highestAt}
-use Rattle.theory.specs.Stands.{Gathered}
+use Rattle.theory.specs.Stands.{sizeOf, Gathered}
 use Rattle.theory.proofs.Lemmas.{some-of}
 use Rattle.meaning.specs.Limits.{setWords}
 use Rattle.meaning.specs.Packing.{through, words, allWords}
@@ -49,37 +50,34 @@ some-unless n b none past tells = go none refl (some n b) refl
     go false q false p = absurd (false≢true (inv q ∙ tells .1 (λ s. fails p s (decLt s n) (b s) refl)))
 
 -- LAW: there are as many positions as the first subterm has nodes
-pub positions-first : {list starts sizes : List ℕ} {n : ℕ} {ts : List Term} → Gathered list starts sizes n ts → 0 < n → positions ts ≡ getD sizes 0 0
+pub positions-first : {list notes : List ℕ} {n : ℕ} {ts : List Term} → Gathered list notes n ts → 0 < n → positions ts ≡ sizeOf notes 0
 positions-first {ts = []} g l = absurd (omega (arith, g .count))
 positions-first {ts = t ∷ ts} g l = inv (g .each 0 l .nodes)
 
-module _ (T : Table) (cut : ℕ) (ts : List Term) (start : ℕ) (before : List ℕ) where
-  pub packed-none : PackedTo T cut ts start 0 before before true 1000 1000
-  packed-none = record { words = over-none before (setWords * start); forms = refl; at-worst = refl; at-best = refl }
+module _ (T : Table) (cut : ℕ) (ts : List Term) (before : List ℕ) where
+  pub packed-none : PackedTo T cut ts 0 before before true 1000 1000
+  packed-none = record { words = over-none before 0; forms = refl; at-worst = refl; at-best = refl }
 
   abbrev one : ℕ → List (ℕ → Bool)
   one k = inSet T cut ts k ∷ []
 
   -- LAW: one position more, whose set has these words
   pub packed-next : (k : ℕ) (ws : List ℕ) (empty : Bool) {mid after : List ℕ} {form form′ : Bool} {low low′ high high′ : ℕ}
-      → PackedTo T cut ts start k before mid form low high → setWords * (start + k) ≤ length before
+      → PackedTo T cut ts k before mid form low high → setWords * k ≤ length before
       → Words setWords ws → ((s : ℕ) → member ws s ≡ inSet T cut ts k s)
-      → after ≡ over mid (setWords * (start + k)) ws
+      → after ≡ over mid (setWords * k) ws
       → (empty ≡ true) ↔ ((s : ℕ) → member ws s ≡ false) → form′ ≡ cond empty false form
       → low′ ≡ min low (lowestAt T cut ts k) → high′ ≡ min high (highestAt T cut ts k)
-      → PackedTo T cut ts start (k + 1) before after form′ low′ high′
-  packed-next k ws empty {form = form} h room w is laid tells f l m =
+      → PackedTo T cut ts (k + 1) before after form′ low′ high′
+  packed-next k ws empty {mid = mid} {form = form} h room w is laid tells f l m =
       record {
-        words = over-next before (setWords * start) (allWords (through k one)) (setWords * k) ws (h .words) (rw place at laid) long (omega arith)
-            ∙ ap (over before (setWords * start)) behind;
+        words = over-next before 0 (allWords (through k one)) (setWords * k) ws (h .words) (laid ∙ ap (λ n. over mid n ws) (inv (zero-add (setWords * k)))) long (omega arith)
+            ∙ ap (over before 0) behind;
         forms = f ∙ unless empty form ∙ ap₂ _&&_ (inv symbol) (h .forms) ∙ inv (ap (λ n. every n (λ k. some (T .size) (inSet T cut ts k))) (add-one k));
         at-worst = l ∙ ap (λ n. min n (lowestAt T cut ts k)) (h .at-worst) ∙ inv (lowest-last k (lowestAt T cut ts));
         at-best = m ∙ ap (λ n. min n (highestAt T cut ts k)) (h .at-best) ∙ inv (lowest-last k (highestAt T cut ts));
       }
     where
-      place : setWords * (start + k) ≡ setWords * start + setWords * k
-      place = omega arith
-
       long : length (allWords (through k one)) ≡ setWords * k
       long = omega (arith, length-words (through k one), length-through one 1 (λ k. refl) (λ s. false) k)
 

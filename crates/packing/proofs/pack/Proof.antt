@@ -1,51 +1,63 @@
--- After i turns the variables of the first i nodes are packed, each where it is first met: a variable's node whose span is
--- empty is packed, and any other node is passed over.
+-- After i turns the variables of the first i nodes are packed, each where it is first met: a variable's node whose span is empty is packed with the
+-- notes that are gathered for it, and any other node is passed over.
 use borrow.Author.Needs.{needs}
 use mathlib.Core.Path.{_≡_, refl, sym as inv, ap, _∙_}
 use mathlib.Core.Logic.{inl, inr}
+use mathlib.Core.List.{List}
 use Prim.Native.Nat.{ℕ, _+_, _-_, _*_, _≤_}
 use native.Mathlib.Omega.{arith}
 use lib.ListN.{length, getD}
+use lib.Seq.{length-take-le}
 use Rattle.meaning.specs.Limits.{variableCount, spanWidth}
 use Rattle.meaning.specs.File.{tableIn}
 use Rattle.meaning.specs.Calls.{zeros, facesIn}
+use Rattle.near.specs.Near.{NearSets}
 use Rattle.terms.specs.Kinds.{kindOf}
 use Rattle.terms.specs.declared.kind.Kind.{Kind}
 use Rattle.terms.specs.declared.kind.Kind.the-variants.{Variable}
 use Rattle.terms.proofs.Nodes.{variable-kind}
-use Rattle.packing.proofs.Notes.{covers, near-of, room-kept}
+use Rattle.wide.specs.Index.{Index}
+use Rattle.packing.specs.Pack.{Packable, NearWhere, PackableAt}
+use Rattle.packing.proofs.Notes.{near-of, gathered-own, own-notes, own-first}
 use Rattle.packing.proofs.Searching.{searched-none}
 use Rattle.packing.proofs.Meeting.{NewAt, PackedAlong, along-all, along-other, along-met, new-at, along-new}
 use Rattle.packing.proofs.pack.Statement.{statement}
 use Rattle.packing.proofs.pack.Tie as tie
 
 abbrev Inv-loop : tie.InvT-loop
-Inv-loop table pattern heading cut starts sizes least near own-starts₀ own-sizes₀ spans₀ sets₀ symbols search₀ i₀ i-end own-starts own-sizes spans sets search i =
+Inv-loop table pattern heading near index₀ notes own₀ least spans₀ sets₀ symbols search₀ i₀ i-end index own spans sets search i =
     (i ≤ length pattern)
-    × (length own-starts ≡ length own-starts₀)
-    × (length own-sizes ≡ length own-sizes₀)
+    × (length index ≡ length index₀)
+    × (length own ≡ length own₀)
     × (length spans ≡ length spans₀)
     × (length sets ≡ length sets₀)
-    × PackedAlong table pattern heading cut i (length spans₀ - spanWidth * variableCount) sets₀ search spans sets
+    × Index table index
+    × ((cut : ℕ) → Packable table pattern heading cut notes → NearWhere table pattern heading cut near
+    → PackedAlong table pattern heading cut i (length spans₀ - spanWidth * variableCount) sets₀ search spans sets)
 
 abbrev μ-loop : tie.MeasureT-loop
-μ-loop table pattern heading cut starts sizes least near own-starts₀ own-sizes₀ spans₀ sets₀ symbols search₀ i₀ i-end own-starts own-sizes spans sets search i =
+μ-loop table pattern heading near index₀ notes own₀ least spans₀ sets₀ symbols search₀ i₀ i-end index own spans sets search i =
     length pattern - i
 
-near-sets-requires : tie.Need-near-sets-requires Inv-loop μ-loop
-near-sets-requires c κs =
-    let p = c .before .before .before .before .before .before .before .before .before .before .before .pre in
-    ((p .0 .sound, p .0 .positive, p .0 .top), p .1 .1 .0)
+-- what was there at first, and what packing starts from
+abbrev entry : tie.In-loop Inv-loop μ-loop → tie.Start Inv-loop μ-loop
+entry c = c .before .before .before .before .before .before .before .before .before .before .before .before
+
+abbrev Given : tie.Start Inv-loop μ-loop → Type 0
+Given c = let a = c .args in PackableAt (a .table .now) (a .pattern .now) (a .heading .now) (a .near .now) (a .notes .now)
+
+given : (c : tie.Start Inv-loop μ-loop) → Given c
+given c = c .pre .1 .1 .1
 
 symbol-count-requires : tie.Need-symbol-count-requires Inv-loop μ-loop
-symbol-count-requires c κs = search needs
+symbol-count-requires c κs = given (c .before .before .before .before .before .before .before .before .before) .packable .sound
 
 loop-holds : tie.Need-loop-holds Inv-loop μ-loop
 loop-holds c =
-    let start = c .before .before .before .before .before .before .before .before .before .before .before .before .before .before .before in
+    let start = c .before .before .before .before .before .before .before .before .before .before in
     let all = length (start .args .spans .now) in
-    let n : all ≡ spanWidth * variableCount + (all - spanWidth * variableCount) = omega (arith, start .pre .1 .0 .of-spans) in
-    (omega arith, refl, refl, refl, refl, searched-none _ _ _ _ _ _ (start .pre .1 .1 .1 .0) (start .pre .1 .1 .1 .1 ∙ ap zeros n))
+    let n : all ≡ spanWidth * variableCount + (all - spanWidth * variableCount) = omega (arith, start .pre .0 .1 .of-spans) in
+    (omega arith, refl, refl, refl, refl, start .pre .0 .0, λ cut k w. searched-none _ _ _ _ _ _ (start .pre .1 .0) (start .pre .1 .1 .0 ∙ ap zeros n))
 
 mul-kind-of : tie.Need-mul-kind-of Inv-loop μ-loop
 mul-kind-of c = search needs
@@ -58,9 +70,6 @@ kind-of-requires c κs = search needs
 
 enum-known-v : tie.Need-enum-known-v Inv-loop μ-loop
 enum-known-v c = search needs
-
-abbrev entry : tie.In-loop Inv-loop μ-loop → tie.Start Inv-loop μ-loop
-entry c = c .before .before .before .before .before .before .before .before .before .before .before .before .before .before .before .before .before
 
 -- the kind of the node at which a turn stands
 abbrev kindAt : tie.In-loop Inv-loop μ-loop → Kind
@@ -98,7 +107,7 @@ mul-if1-2 c = search needs
 slice-read-if1 : tie.Need-slice-read-if1 Inv-loop μ-loop
 slice-read-if1 c =
     let turn = c .before .before .before .before .before .before in
-    omega (arith, variable-kind _ _ _ (is-variable (c .before)) .1, entry turn .pre .1 .0 .of-spans, turn .before .loop .inv .3)
+    omega (arith, variable-kind _ _ _ (is-variable (c .before)) .1, entry turn .pre .0 .1 .of-spans, turn .before .loop .inv .3)
 
 -- variable v stands here for the first time
 abbrev New : tie.In-loop Inv-loop μ-loop → ℕ → Type 0
@@ -110,18 +119,63 @@ New c v =
 is-new : (c : tie.Then1 Inv-loop μ-loop) → New (c .before .before .before .before .before .before .before) (c .before .before .before .v .given .0 .0)
 is-new c =
     let turn = c .before .before .before .before .before .before .before in
-    new-at (entry turn .pre .0) (turn .before .loop .inv .5) (turn .loop-test .taken) (is-variable (c .before .before)) (c .if1 .taken)
+    let g = given (entry turn) in
+    new-at (g .packable) (turn .before .loop .inv .6 (g .cut) (g .packable) (g .gathered)) (turn .loop-test .taken) (is-variable (c .before .before)) (c .if1 .taken)
+
+-- .. so the near sets are gathered
+near-here : (c : tie.Then1 Inv-loop μ-loop) (cut : ℕ)
+    → let a = entry (c .before .before .before .before .before .before .before) .args in
+    NearWhere (a .table .now) (a .pattern .now) (a .heading .now) cut (a .near .now) → NearSets (tableIn (a .table .now)) cut (a .heading .now) (a .near .now)
+near-here c cut w =
+    let turn = c .before .before .before .before .before .before .before in
+    w .gathered (turn .before .loop .i) (turn .loop-test .taken) (omega (arith, variable-kind _ _ _ (is-variable (c .before .before)) .0))
+
+gather-requires : tie.Need-gather-requires Inv-loop μ-loop
+gather-requires c κs =
+    let met = c .before in
+    let turn = met .before .before .before .before .before .before .before in
+    let room = entry turn .pre .0 .1 in
+    (is-new met .below, room .of-notes, omega (arith, room .of-own, turn .before .loop .inv .2))
+
+-- as many notes as are gathered have room
+enough : (c : tie.After-gather Inv-loop μ-loop) → 2 * c .gather .result ≤ length (c .gather .last .1 .1 .1 .0)
+enough c =
+    let turn = c .before .before .before .before .before .before .before .before .before in
+    omega (arith, c .gather .ensures .few, entry turn .pre .0 .1 .of-own, turn .before .loop .inv .2, c .gather .kept .1 .1 .1 .0)
+
+mul-end : tie.Need-mul-end Inv-loop μ-loop
+mul-end c = search needs
+
+slice-reshare-prefix-pack-next : tie.Need-slice-reshare-prefix-pack-next Inv-loop μ-loop
+slice-reshare-prefix-pack-next c = enough (c .before .before .before)
+
+slice-aggregate-pack-next : tie.Need-slice-aggregate-pack-next Inv-loop μ-loop
+slice-aggregate-pack-next c = inv (length-take-le _ _ (enough (c .before .before .before .before)))
 
 pack-next-requires : tie.Need-pack-next-requires Inv-loop μ-loop
 pack-next-requires c κs =
-    let met = c .before .before .before .before .before in
+    let gathered = c .before .before .before .before .before .before in
+    let met = gathered .before .before in
     let new = is-new met in
     let turn = met .before .before .before .before .before .before .before in
-    let p = entry turn .pre in
-    let kept = turn .before .loop .inv in
-    let gathered = turn .before .before .before .before .before .near-sets in
-    let room = covers (p .0) (gathered .last .1 .1 .0) (gathered .ensures) (omega (arith, p .1 .1 .0 .room, gathered .kept .1 .1 .0)) in
-    (record { cut = entry turn .args .cut; packable = p .0; covers = room }, (room-kept (p .1 .0) (kept .1) (kept .2) (kept .3) (kept .4), ((new .below, new .some), new .fits)))
+    let loop = turn .before .loop in
+    let start = entry turn in
+    let g = given start in
+    let k = g .packable in
+    let sets = near-here met (g .cut) (g .gathered) in
+    let notes = own-notes k (g .gathered .room) sets (gathered .gather .ensures) (new .some) (enough gathered) in
+    let first = own-first k (g .gathered .room) sets (gathered .gather .ensures) (new .some) (enough gathered) in
+    let room = start .pre .0 .1 in (
+      (k .sound, loop .inv .5, notes),
+      (
+        new .below,
+        record {
+          of-span = omega (arith, room .of-spans, loop .inv .3, new .below);
+          fits = omega (arith, new .fits, first);
+          of-sets = omega (arith, room .of-sets, loop .inv .4);
+        },
+      ),
+    )
 
 add-i : tie.Need-add-i Inv-loop μ-loop
 add-i c = search needs
@@ -134,29 +188,47 @@ loop-again c =
     let turn = c .before .before .before in
     let loop = turn .before .loop in
     let start = entry turn in
-    let k = start .pre .0 in
-    let known = near-of k _ (turn .before .before .before .before .before .near-sets .ensures) in
     elim (c .match .came) [
       | inl w ↦
           let told : tie.After-known-told Inv-loop μ-loop = record { before = record { before = record { before = c .before; match = w .0 }; v = w .1 }; known-told = w .2 } in
-          let new : tie.Then1 Inv-loop μ-loop = record { before = record { before = told; slice-known7 = w .3 }; if1 = w .4 } in
-          let kept = w .10 .kept .1 .1 .1 .1 .1 .1 .1 .1 in
-          rw (w .19, w .20, w .21, w .22, w .23) (
+          let met : tie.Then1 Inv-loop μ-loop = record { before = record { before = told; slice-known5 = w .3 }; if1 = w .4 } in
+          let gathered : tie.After-gather Inv-loop μ-loop = record { before = record { before = met; gather-arg = w .5 }; gather = w .6 } in
+          let new = is-new met in
+          let kept = w .13 .kept in
+          rw (w .20, w .21, w .22, w .23, w .24) (
             omega arith,
-            kept .0 ∙ loop .inv .1,
-            kept .1 .0 ∙ loop .inv .2,
-            kept .1 .1 .0 ∙ loop .inv .3,
-            kept .1 .1 .1 .0 ∙ loop .inv .4,
-            along-new k (loop .inv .5) (turn .loop-test .taken) (is-new new) (start .pre .1 .0 .of-sets) (w .10 .ensures (start .args .cut) known),
+            kept .1 .1 .0 ∙ loop .inv .1,
+            w .6 .kept .1 .1 .1 .0 ∙ loop .inv .2,
+            kept .1 .1 .1 .1 .1 .1 .1 .0 ∙ loop .inv .3,
+            kept .1 .1 .1 .1 .1 .1 .1 .1 .0 ∙ loop .inv .4,
+            w .13 .ensures .0,
+            λ cut k near.
+                let sets = near-here met cut near in
+                let own = gathered-own k (near .room) sets (w .6 .ensures) (new .some) (enough gathered) in
+                along-new k (loop .inv .6 cut k near) (turn .loop-test .taken) new (start .pre .0 .1 .of-sets) (w .13 .ensures .1 _ cut own (near-of k (near .room) sets)),
           )
       | inr (inl w) ↦
           let told : tie.After-known-told Inv-loop μ-loop = record { before = record { before = record { before = c .before; match = w .0 }; v = w .1 }; known-told = w .2 } in
-          rw (w .5, w .6, w .7, w .8, w .9)
-          (omega arith, loop .inv .1, loop .inv .2, loop .inv .3, loop .inv .4, along-met k (loop .inv .5) (turn .loop-test .taken) (is-variable told) (w .4 .left))
+          rw (w .5, w .6, w .7, w .8, w .9) (
+            omega arith,
+            loop .inv .1,
+            loop .inv .2,
+            loop .inv .3,
+            loop .inv .4,
+            loop .inv .5,
+            λ cut k near. along-met k (loop .inv .6 cut k near) (turn .loop-test .taken) (is-variable told) (w .4 .left),
+          )
       | inr (inr w) ↦
           let other : tie.At-match-keys2 Inv-loop μ-loop = record { before = c .before; match = w .0 } in
-          rw (w .1, w .2, w .3, w .4, w .5)
-          (omega arith, loop .inv .1, loop .inv .2, loop .inv .3, loop .inv .4, along-other k (loop .inv .5) (turn .loop-test .taken) (is-other other))
+          rw (w .1, w .2, w .3, w .4, w .5) (
+            omega arith,
+            loop .inv .1,
+            loop .inv .2,
+            loop .inv .3,
+            loop .inv .4,
+            loop .inv .5,
+            λ cut k near. along-other k (loop .inv .6 cut k near) (turn .loop-test .taken) (is-other other),
+          )
     ]
 
 same-length : tie.Need-same-length Inv-loop μ-loop
@@ -171,13 +243,8 @@ same-length-3 c = search needs
 same-length-4 : tie.Need-same-length-4 Inv-loop μ-loop
 same-length-4 c = search needs
 
-same-length-5 : tie.Need-same-length-5 Inv-loop μ-loop
-same-length-5 c = search needs
-
 returns : tie.Need-returns Inv-loop μ-loop
-returns c =
-    let start = c .before .before .before .before .before .before .before .before .before .before .before .before .before .before .before .before .before in
-    along-all (start .pre .0) (c .before .loop .inv .5) (c .loop-test .left)
+returns c = λ cut k near. along-all k (c .before .loop .inv .6 cut k near) (c .loop-test .left)
 
 pub pack-spec : {M : Type 1} → statement M
 pack-spec =
@@ -185,7 +252,6 @@ pack-spec =
     (tie.spec
     Inv-loop
     μ-loop
-    near-sets-requires
     symbol-count-requires
     loop-holds
     mul-kind-of
@@ -197,6 +263,10 @@ pack-spec =
     add-if1
     mul-if1-2
     slice-read-if1
+    gather-requires
+    mul-end
+    slice-reshare-prefix-pack-next
+    slice-aggregate-pack-next
     pack-next-requires
     add-i
     loop-less
@@ -205,5 +275,4 @@ pack-spec =
     same-length-2
     same-length-3
     same-length-4
-    same-length-5
     returns)

@@ -1,134 +1,102 @@
--- After k turns the first k positions are packed, of whatever terms stand where the lists say.
+-- A variable with one note is packed by the part of the heading that the note tells of, any other by all its notes.
 use borrow.Author.Needs.{needs}
-use mathlib.Core.Path.{_≡_, refl, ap, _∙_}
-use mathlib.Core.Logic.{inl, inr}
-use mathlib.Core.List.{List}
-use mathlib.Core.Bool.{false, cond}
-use Prim.Native.Nat.{ℕ, _≤_, _-_, min}
+use mathlib.Core.Path.{_≡_, ap₂, _∙_}
+use Prim.Native.Nat.{ℕ, _+_, _-_, _≤_}
 use native.Mathlib.Omega.{arith}
-use lib.ListN.{length}
-use Rattle.theory.specs.Tree.{Term}
-use Rattle.theory.specs.Match.{positions}
-use Rattle.theory.specs.Stands.{Gathered}
-use Rattle.meaning.specs.Limits.{setWords}
-use Rattle.meaning.specs.File.{tableIn}
-use Rattle.sets.specs.Words.{Words}
-use Rattle.sets.proofs.Laws.{words-of}
-use Rattle.positions.specs.Facing.{NearOf}
-use Rattle.variable.specs.Variable.{PackedTo}
-use Rattle.variable.proofs.Positions.{positions-first, packed-none, packed-next}
+use lib.ListN.{length, take, drop}
+use Rattle.theory.specs.Stands.{startOf, sizeOf}
+use Rattle.variable.proofs.Alone.{part-covers, part-near, length-part, one-term}
 use Rattle.variable.proofs.pack_variable.Statement.{statement}
 use Rattle.variable.proofs.pack_variable.Tie as tie
 
-abbrev Inv-loop : tie.InvT-loop
-Inv-loop table near heading starts sizes count at sets₀ formed₀ lowest₀ highest₀ k₀ k-end sets formed lowest highest k =
-    (k ≤ k-end)
-    × (length sets ≡ length sets₀)
-    × ((ts : List Term) (cut : ℕ) → Gathered heading starts sizes count ts → NearOf (tableIn table) cut near heading → PackedTo (tableIn table) cut ts at k sets₀ sets formed lowest highest)
+note-at-requires : tie.Need-note-at-requires
+note-at-requires c κs = search needs
 
-abbrev μ-loop : tie.MeasureT-loop
-μ-loop table near heading starts sizes count at sets₀ formed₀ lowest₀ highest₀ k₀ k-end sets formed lowest highest k =
-    k-end - k
+cast-start : tie.Need-cast-start
+cast-start c = search needs
 
-shared-slice-read-k-end : tie.Need-shared-slice-read-k-end Inv-loop μ-loop
-shared-slice-read-k-end c = search needs
+cast-end : tie.Need-cast-end
+cast-end c = search needs
 
-cast-k-end : tie.Need-cast-k-end Inv-loop μ-loop
-cast-k-end c = search needs
+add-end : tie.Need-add-end
+add-end c = search needs
 
-loop-holds : tie.Need-loop-holds Inv-loop μ-loop
-loop-holds c = (omega arith, refl, λ ts cut g known. packed-none _ _ ts _ _)
+mul-pack-alone : tie.Need-mul-pack-alone
+mul-pack-alone c = search needs
 
-set-at-requires : tie.Need-set-at-requires Inv-loop μ-loop
-set-at-requires c κs = search needs
+sub-pack-alone : tie.Need-sub-pack-alone
+sub-pack-alone c = search needs
 
-add-put : tie.Need-add-put Inv-loop μ-loop
-add-put c = search needs
+part-pack-alone-start : tie.Need-part-pack-alone-start
+part-pack-alone-start c = search needs
 
-mul-put : tie.Need-mul-put Inv-loop μ-loop
-mul-put c = search needs
+-- the subterm of the first note is inside the heading
+inside : (c : tie.After-note-at)
+    → let a = c .before .before .before .before .before .before .before .before .args in
+    let note = c .note-at .result in
+    note .start + (note .start + note .size - note .start) ≤ length (a .heading .now)
+inside c =
+    let own = c .before .before .before .before .before .before .before .before .pre .0 .2 in
+    omega (arith, own .within 0 (own .some), c .note-at .ensures)
 
-put-requires : tie.Need-put-requires Inv-loop μ-loop
-put-requires c κs = search needs
+part-pack-alone-end : tie.Need-part-pack-alone-end
+part-pack-alone-end c = omega (arith, inside (c .before .before))
 
-is-empty-requires : tie.Need-is-empty-requires Inv-loop μ-loop
-is-empty-requires c κs = search needs
+pack-alone-requires : tie.Need-pack-alone-requires
+pack-alone-requires c κs =
+    let noted = c .before .before .before .before in
+    let start = noted .before .before .before .before .before .before .before .before in
+    let heading = start .args .heading .now in
+    let first = noted .note-at .result .start in
+    let size = first + noted .note-at .result .size - first in
+    let part = length-part heading first size (inside noted) in
+    (part-covers heading first size (inside noted) (start .args .near .now) (start .pre .0 .2 .covers), omega (arith, part, start .pre .1, noted .note-at .ensures))
 
-degrees-at-requires : tie.Need-degrees-at-requires Inv-loop μ-loop
-degrees-at-requires c κs = search needs
-
-lesser-requires : tie.Need-lesser-requires Inv-loop μ-loop
-lesser-requires c κs = search needs
-
-lesser-requires-2 : tie.Need-lesser-requires-2 Inv-loop μ-loop
-lesser-requires-2 c κs = search needs
-
-add-k : tie.Need-add-k Inv-loop μ-loop
-add-k c =
-    let turn = c .before .before .before .before .before .before .before .before .before .before in
-    omega (arith, turn .loop-test .taken, turn .before .before .shared-slice-known6 .given 0)
-
-loop-less : tie.Need-loop-less Inv-loop μ-loop
-loop-less c = search needs
-
-set-words : (c : tie.After-set-at Inv-loop μ-loop) → Words setWords (c .set-at .result .words)
-set-words c = search (needs, words-of)
-
-form-is : (c : tie.Joined1 Inv-loop μ-loop)
-    → let loop = c .before .before .before .before .before .before .before .before .loop in
-    c .if1 .formed ≡ cond (c .before .is-empty .result) false (loop .formed)
-form-is c = elim (c .if1 .came) [ inl w ↦ rw (w .0 .taken) (w .1) | inr w ↦ rw (w .0 .left) (w .1) ]
-
-loop-again : tie.Need-loop-again Inv-loop μ-loop
-loop-again c =
-    let met = c .before .before .before in
-    let put = met .before .before .before .before in
-    let chosen = put .before .before in
-    let turn = chosen .before in
-    let start = turn .before .before .before .before .before .before .before .before .before in
-    let a = start .args in
-    let loop = turn .before .loop in
-    let set = chosen .set-at in
-    let empty = met .before .is-empty in (
-      omega arith,
-      put .put .kept .1 .0 ∙ loop .inv .1,
-      λ ts cut g known.
-          let is = set .ensures (tableIn (a .table .now)) cut known ts g in
-          let degrees = c .before .before .degrees-at .ensures cut known ts g is in
-          packed-next (tableIn (a .table .now)) cut ts (a .at) (a .sets .now) (loop .k) (set .result .words) (empty .result)
-          (loop .inv .2 ts cut g known) (omega (arith, start .pre .1)) (set-words chosen) is (put .put .ensures) (empty .ensures) (form-is met)
-          (c .before .lesser .ensures ∙ ap (min (loop .lowest)) (degrees .0))
-          (c .lesser2 .ensures ∙ ap (min (loop .highest)) (degrees .1)),
-    )
-
-same-length : tie.Need-same-length Inv-loop μ-loop
+same-length : tie.Need-same-length
 same-length c = search needs
 
-returns : tie.Need-returns Inv-loop μ-loop
-returns c ts cut g known =
-    let p = c .before .before .before .before .before .before .before .before .before .pre in
-    let e : c .before .loop .k ≡ positions ts = omega (arith, positions-first g (p .0 .3)) in
-    rw e at (c .before .loop .inv .2 ts cut g known)
+returns : tie.Need-returns
+returns c =
+    let noted = c .before .before .before .before .before .before .before in
+    let start = noted .before .before .before .before .before .before .before .before in
+    let heading = start .args .heading .now in
+    let note = noted .note-at in
+    let size : note .result .start + note .result .size - note .result .start ≡ sizeOf (start .args .notes .now) 0 = omega (arith, note .ensures) in (
+      start .pre .0 .1,
+      λ ts g cut known.
+          let one = one-term ts g (omega arith) in
+          let writes = ap₂ (λ (n s : ℕ). take n (drop s heading)) size (note .ensures .0) ∙ one .2 .is in
+          rw (one .1) (c .before .before .pack-alone .ensures _ (one .0) writes cut (part-near _ _ _ (inside noted) known)),
+    )
+
+pack-shared-requires : tie.Need-pack-shared-requires
+pack-shared-requires c κs = search needs
+
+same-length-2 : tie.Need-same-length-2
+same-length-2 c = search needs
+
+same-length-3 : tie.Need-same-length-3
+same-length-3 c = search needs
+
+returns-2 : tie.Need-returns-2
+returns-2 c = search needs
 
 pub pack-variable-spec : {M : Type 1} → statement M
 pack-variable-spec =
     tie.close
     (tie.spec
-    Inv-loop
-    μ-loop
-    shared-slice-read-k-end
-    cast-k-end
-    loop-holds
-    set-at-requires
-    add-put
-    mul-put
-    put-requires
-    is-empty-requires
-    degrees-at-requires
-    lesser-requires
-    lesser-requires-2
-    add-k
-    loop-less
-    loop-again
+    note-at-requires
+    cast-start
+    cast-end
+    add-end
+    mul-pack-alone
+    sub-pack-alone
+    part-pack-alone-start
+    part-pack-alone-end
+    pack-alone-requires
     same-length
-    returns)
+    returns
+    pack-shared-requires
+    same-length-2
+    same-length-3
+    returns-2)

@@ -1,18 +1,26 @@
--- A table of few symbols fits the smaller memory, and each test that fails leaves it to the next larger.
+-- A small table fits the smallest memory, and each test that fails leaves it to the next larger.
 use borrow.Author.Needs.{needs}
+use native.Mathlib.Omega.{arith}
 use denote.Ref.{now}
 use Rattle.matching.proofs.Searched.{fit}
 use Rattle.matches.proofs.memory.search_sound.Statement.{statement}
 use Rattle.matches.proofs.memory.search_sound.Tie as tie
 
-symbol-count-requires : tie.Need-symbol-count-requires
-symbol-count-requires c κs =
+counts-of-requires : tie.Need-counts-of-requires
+counts-of-requires c κs =
     let s = c .before .before .before .before .before in
     let a = s .args in
     fit (now (a .table)) (now (a .pattern)) (now (a .heading)) (a .cut) (now (a .spans)) (now (a .sets)) (s .pre) .sound
 
-with-few-sets-requires : tie.Need-with-few-sets-requires
-with-few-sets-requires c κs = search needs
+is-small-requires : tie.Need-is-small-requires
+is-small-requires c κs = search needs
+
+over-small-requires : tie.Need-over-small-requires
+over-small-requires c κs =
+    let met = c .before .before in
+    let counted = met .before .before .counts-of .ensures in
+    let few = met .before .is-small .ensures (met .if1 .taken) in
+    ((omega (arith, few .0, counted .symbols-are), omega (arith, few .1, counted .pairs-are)), met .before .before .before .before .before .before .before .before .pre)
 
 same-length : tie.Need-same-length
 same-length c = search needs
@@ -23,8 +31,8 @@ same-length-2 c = search needs
 returns : tie.Need-returns
 returns c = search needs
 
-with-more-sets-requires : tie.Need-with-more-sets-requires
-with-more-sets-requires c κs = search needs
+over-middling-requires : tie.Need-over-middling-requires
+over-middling-requires c κs = search needs
 
 same-length-3 : tie.Need-same-length-3
 same-length-3 c = search needs
@@ -35,8 +43,8 @@ same-length-4 c = search needs
 returns-2 : tie.Need-returns-2
 returns-2 c = search needs
 
-with-all-sets-requires : tie.Need-with-all-sets-requires
-with-all-sets-requires c κs = search needs
+over-any-requires : tie.Need-over-any-requires
+over-any-requires c κs = search needs
 
 same-length-5 : tie.Need-same-length-5
 same-length-5 c = search needs
@@ -51,16 +59,17 @@ pub search-sound-spec : {M : Type 1} → statement M
 search-sound-spec =
     tie.close
     (tie.spec
-    symbol-count-requires
-    with-few-sets-requires
+    counts-of-requires
+    is-small-requires
+    over-small-requires
     same-length
     same-length-2
     returns
-    with-more-sets-requires
+    over-middling-requires
     same-length-3
     same-length-4
     returns-2
-    with-all-sets-requires
+    over-any-requires
     same-length-5
     same-length-6
     returns-3)

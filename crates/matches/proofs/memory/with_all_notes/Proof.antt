@@ -1,5 +1,6 @@
--- No pattern has more nodes than the notes lent have room for.
+-- No pattern has more nodes than the notes have room for.
 use borrow.Author.Needs.{needs}
+use native.Mathlib.Omega.{arith}
 use denote.Ref.{now}
 use Rattle.matching.proofs.Searched.{pattern-few}
 use Rattle.matches.proofs.memory.with_all_notes.Statement.{statement}
@@ -11,18 +12,12 @@ slice-aggregate-search c = search needs
 slice-aggregate-search-2 : tie.Need-slice-aggregate-search-2
 slice-aggregate-search-2 c = search needs
 
-slice-aggregate-search-3 : tie.Need-slice-aggregate-search-3
-slice-aggregate-search-3 c = search needs
-
-slice-aggregate-search-4 : tie.Need-slice-aggregate-search-4
-slice-aggregate-search-4 c = search needs
-
 search-requires : tie.Need-search-requires
 search-requires c κs =
     let s = c .before .before .before .before .before .before .before .before .before .before .before .before .before in
     let a = s .args in
     let few = pattern-few (now (a .table)) (now (a .pattern)) (now (a .heading)) (a .cut) (now (a .spans)) (now (a .sets)) (s .pre .0) in
-    (s .pre .0, (s .pre .1, ((few, few), (few, few))))
+    (s .pre .0, (s .pre .1, (omega (arith, few), omega (arith, few))))
 
 same-length : tie.Need-same-length
 same-length c = search needs
@@ -33,6 +28,9 @@ same-length-2 c = search needs
 same-length-3 : tie.Need-same-length-3
 same-length-3 c = search needs
 
+same-length-4 : tie.Need-same-length-4
+same-length-4 c = search needs
+
 returns : tie.Need-returns
 returns c = search needs
 
@@ -42,10 +40,9 @@ with-all-notes-spec =
     (tie.spec
     slice-aggregate-search
     slice-aggregate-search-2
-    slice-aggregate-search-3
-    slice-aggregate-search-4
     search-requires
     same-length
     same-length-2
     same-length-3
+    same-length-4
     returns)

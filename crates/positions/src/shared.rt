@@ -1,0 +1,51 @@
+// The symbols that may stand at a position for the variable: those near enough to all that stand there.
+ghost use mathlib.Core.Path.{_≡_};
+ghost use mathlib.Core.Bool.{true, false};
+ghost use Prim.Native.Nat.{ℕ};
+ghost use Rattle.meaning.specs.Buffers.{member};
+ghost use Rattle.positions.specs.Position.{KeptOf, SharedBy};
+use crate::faced::Faced;
+use degrees::lesser;
+use near::lowest_of;
+use near::set_of;
+use sets::SymbolSet;
+use sets::next_member;
+
+pub struct Shared {
+    pub set: SymbolSet,
+    // no symbol of the set has a lower degree with one that stands there
+    pub floor: u16,
+}
+
+// The symbols near to all of these, of which there is one at least, over a table of so many symbols.
+fn shared_by(near: &[u64], symbols: u16, faced: SymbolSet) -> Shared
+    requires { ⌜ KeptOf (now near) symbols (faced .words) ⌝ }
+    ensures { λ r. ⌜ SharedBy (now (near .entry)) symbols (faced .words) (r .set .words) (r .floor) ⌝ }
+{
+    let first = next_member(&faced.words, 0, symbols);
+    let mut set = set_of(near, first);
+    let mut floor = lowest_of(near, first);
+    let mut h = next_member(&faced.words, first + 1, symbols);
+    while h < symbols {
+        set = set.intersect(set_of(near, h));
+        floor = lesser(floor, lowest_of(near, h));
+        h = next_member(&faced.words, h + 1, symbols);
+    }
+    Shared { set, floor }
+}
+
+// The same of what stands at a position: nothing is near where a subterm has no symbol.
+pub fn shared_at(near: &[u64], symbols: u16, faced: Faced) -> Shared
+    requires { ⌜ (faced .everywhere ≡ true → KeptOf (now near) symbols (faced .symbols .words)) ⌝ }
+    ensures { λ r. ⌜ (faced .everywhere ≡ true → SharedBy (now (near .entry)) symbols (faced .symbols .words) (r .set .words) (r .floor)) ⌝ }
+    ensures { λ r. ⌜ (faced .everywhere ≡ false → (k : ℕ) → member (r .set .words) k ≡ false) ⌝ }
+{
+    if faced.everywhere {
+        let there = faced.symbols;
+        return shared_by(near, symbols, there);
+    }
+    Shared {
+        set: SymbolSet::empty(),
+        floor: 1000,
+    }
+}

@@ -1,0 +1,173 @@
+-- Pairs chained one after the other: a pair is linked to the last before it that has its higher symbol, which was the head, and is the head
+-- then; the heads of all other symbols stay.
+use mathlib.Core.Path.{_≡_, sym as inv, ap, _∙_}
+use mathlib.Core.List.{List}
+use mathlib.Core.Bool.{cond}
+use Prim.Native.Nat.{ℕ, zero, suc, _+_, _-_, _*_, _≤_, _<_}
+use native.Mathlib.Numerals.{add-one}
+use native.Mathlib.Decide.{decLt, ℕ-discrete}
+use native.Mathlib.Omega.{arith}
+use borrow.Author.Tests.{eq-eqb, ne-eqb}
+use borrow.Author.Count.{below-none, below-more}
+use lib.Dec.{eqb}
+use lib.ListN.{length, getD, set, length-set, length-replicate}
+use lib.Seq.{getD-set-same, getD-set-other}
+use Rattle.meaning.specs.File.{pairCount, tableIn}
+use Rattle.meaning.specs.Tables.{lowerAt, higherAt}
+use Rattle.meaning.specs.Refusals.{SoundFile}
+use Rattle.meaning.specs.Calls.{zeros}
+use Rattle.meaning.proofs.Bits.{getD-zeros}
+use Rattle.degrees.specs.Rows.{Rows, RowsLaid}
+use Rattle.degrees.proofs.Listed.{pair-symbols}
+use Rattle.degrees.proofs.Narrowing.{rows-anywhere}
+use Rattle.wide.specs.Index.{lastWith, linkedAt, headsAt, linksAt, indexRoom, Linked, Index, Chained}
+
+-- ---- the last pair with a higher symbol
+
+-- m is 1 and the last of the first n pairs whose higher symbol is h, or 0
+pub record Last (file : List ℕ) (h n m : ℕ) : Type 0 where
+  pub within : m ≤ n
+  pub is : 0 < m → higherAt file (m - 1) ≡ h
+  pub none : (j : ℕ) → m ≤ j → j < n → higherAt file j ≡ h → ⊥
+
+module _ (file : List ℕ) (h : ℕ) where
+  pub last-here : (n : ℕ) → higherAt file n ≡ h → lastWith file h (n + 1) ≡ n + 1
+  unfolding lastWith
+  last-here n e = rw (add-one n, eq-eqb (higherAt file n) h e)
+
+  pub last-before : (n : ℕ) → (higherAt file n ≡ h → ⊥) → lastWith file h (n + 1) ≡ lastWith file h n
+  unfolding lastWith
+  last-before n e = rw (add-one n, ne-eqb (higherAt file n) h e)
+
+  -- LAW
+  pub last-with : (n : ℕ) → Last file h n (lastWith file h n)
+  unfolding lastWith
+  last-with zero = record { within = omega arith; is = λ l. absurd (omega arith); none = λ j l m e. omega arith }
+  last-with (suc n) = go (ℕ-discrete (higherAt file n) h) (last-with n)
+    where
+      go : Dec (higherAt file n ≡ h) → Last file h n (lastWith file h n) → Last file h (suc n) (cond (eqb (higherAt file n) h) (suc n) (lastWith file h n))
+      go (yes e) before =
+          let last : suc n - 1 ≡ n = omega arith in
+          rw (eq-eqb (higherAt file n) h e) (record { within = omega arith; is = λ l. ap (higherAt file) last ∙ e; none = λ j l m f. omega arith })
+      go (no d) before =
+          rw (ne-eqb (higherAt file n) h d) (record { within = omega (arith, before .within); is = before .is; none = λ j l m f. other j l m f (decLt j n) })
+        where
+          other : (j : ℕ) → lastWith file h n ≤ j → j < suc n → higherAt file j ≡ h → Dec (j < n) → ⊥
+          other j l m f (yes v) = before .none j l v f
+          other j l m f (no v) = let e : n ≡ j = omega arith in d (ap (higherAt file) e ∙ f)
+
+-- ---- an index that changes
+
+module _ (file : List ℕ) (ok : SoundFile file) (before after : List ℕ) where
+  -- LAW: rows stay where the front of the list does
+  pub rows-kept : length after ≡ length before → ((i : ℕ) → i < 2 * tableIn file .size → getD after i 0 ≡ getD before i 0) → Rows file before → Rows file after
+  rows-kept e same rows =
+      record {
+        room = omega (arith, rows .room);
+        from = λ k l. let s = symbol k l in omega (arith, same (2 * lowerAt file k) (omega arith), rows .from k l);
+        behind = λ k l. let s = symbol k l in omega (arith, same (2 * lowerAt file k + 1) (omega arith), rows .behind k l);
+        within = λ s l. omega (arith, same (2 * s + 1) (omega arith), rows .within s l);
+      }
+    where
+      symbol : (k : ℕ) → k < pairCount file → lowerAt file k < tableIn file .size
+      symbol k l = pair-symbols file ok k l .0
+
+  -- LAW: .. and chains where what is behind the mark does
+  pub linked-kept : (n : ℕ) → ((i : ℕ) → headsAt file ≤ i → getD after i 0 ≡ getD before i 0) → Linked file n before → Linked file n after
+  linked-kept n same linked =
+      record {
+        heads = λ h l. same (headsAt file + h) (omega arith) ∙ linked .heads h l;
+        links = λ k l. same (linksAt file + k) (omega arith) ∙ linked .links k l;
+      }
+
+-- ---- one pair more
+
+module _ (file : List ℕ) (ok : SoundFile file) (k head link : ℕ) (l : k < pairCount file) (head-is : head ≡ headsAt file + higherAt file k) (link-is : link ≡ linksAt file + k)
+    (index : List ℕ) (room : indexRoom file ≤ length index) where
+  -- the list with the pair linked, and then at the head of its chain
+  abbrev linked-on : List ℕ
+  linked-on = set index link (getD index head 0)
+
+  abbrev chained : List ℕ
+  chained = set linked-on head (k + 1)
+
+  symbol : higherAt file k < tableIn file .size
+  symbol = pair-symbols file ok k l .1
+
+  -- what is neither link nor head stays
+  elsewhere : (i : ℕ) → (i ≡ link → ⊥) → (i ≡ head → ⊥) → getD chained i 0 ≡ getD index i 0
+  elsewhere i n m = getD-set-other linked-on head i (k + 1) 0 m ∙ getD-set-other index link i (getD index head 0) 0 n
+
+  -- LAW
+  pub linked-next : Linked file k index → Linked file (k + 1) chained
+  linked-next linked =
+      record {
+        heads = λ h m. at-head h m (ℕ-discrete (higherAt file k) h);
+        links = below-more _ k (λ j m. elsewhere (linksAt file + j) (λ e. omega arith) (λ e. omega (arith, symbol)) ∙ linked .links j m) at-link;
+      }
+    where
+      at-head : (h : ℕ) → h < tableIn file .size → Dec (higherAt file k ≡ h) → getD chained (headsAt file + h) 0 ≡ lastWith file h (k + 1)
+      at-head h m (yes e) =
+          let here : headsAt file + h ≡ head = omega arith in
+          ap (λ (i : ℕ). getD chained i 0) here
+          ∙ getD-set-same linked-on head (k + 1) 0 (rw (length-set index link (getD index head 0)) (omega (arith, symbol)))
+          ∙ inv (last-here file h k e)
+      at-head h m (no d) = elsewhere (headsAt file + h) (λ e. omega arith) (λ e. d (omega arith)) ∙ linked .heads h m ∙ inv (last-before file h k d)
+
+      at-link : getD chained (linksAt file + k) 0 ≡ lastWith file (higherAt file k) k
+      at-link =
+          ap (λ (i : ℕ). getD chained i 0) (inv link-is)
+          ∙ getD-set-other linked-on head link (k + 1) 0 (λ e. omega (arith, symbol))
+          ∙ getD-set-same index link (getD index head 0) 0 (omega arith)
+          ∙ ap (λ (i : ℕ). getD index i 0) head-is
+          ∙ linked .heads (higherAt file k) symbol
+
+  -- LAW
+  pub rows-next : Rows file index → Rows file chained
+  rows-next = rows-kept file ok index chained (simp length-set) (λ i m. elsewhere i (λ e. omega arith) (λ e. omega arith))
+
+-- ---- nothing laid out yet
+
+module _ (file : List ℕ) (ok : SoundFile file) (index : List ℕ) (room : indexRoom file ≤ length index) where
+  -- LAW: zeros, which say of each row that it may stand anywhere, and no mark
+  pub opened : ((i : ℕ) → i ≤ linkedAt file → getD index i 0 ≡ 0) → Index file index
+  opened cleared =
+      record {
+        room = room;
+        rows = rows-kept file ok (zeros (length index)) index (inv (length-replicate {A = ℕ} (length index) 0)) (λ i m. cleared i (omega arith) ∙ inv (getD-zeros (length index) i))
+            (rows-anywhere file (zeros (length index)) (rw (length-replicate {A = ℕ} (length index) 0) (omega arith)) (ap zeros (inv (length-replicate {A = ℕ} (length index) 0))));
+        linked = λ mark. absurd (omega (arith, cleared (linkedAt file) (omega arith)));
+      }
+
+  -- LAW: no pair is chained where the heads are 0
+  pub none-linked : ((i : ℕ) → headsAt file ≤ i → i < linksAt file → getD index i 0 ≡ 0) → Linked file 0 index
+  unfolding lastWith
+  none-linked cleared = record { heads = λ h l. cleared (headsAt file + h) (omega arith) (omega arith); links = below-none _ }
+
+-- ---- the mark
+
+module _ (file : List ℕ) (ok : SoundFile file) (mark : ℕ) (mark-is : mark ≡ linkedAt file) (index : List ℕ) (room : indexRoom file ≤ length index) where
+  -- LAW: rows and chains are laid out, and the mark is set
+  pub marked : Rows file index → Linked file (pairCount file) index → Chained file (set index mark 1)
+  marked rows linked = (
+    record {
+      room = rw (length-set index mark 1) room;
+      rows = rows-kept file ok index (set index mark 1) (length-set index mark 1) (λ i m. getD-set-other index mark i 1 0 (λ e. omega arith)) rows;
+      linked = λ _. linked-kept file ok index (set index mark 1) (pairCount file) (λ i m. getD-set-other index mark i 1 0 (λ e. omega arith)) linked;
+    },
+    ap (λ (i : ℕ). getD (set index mark 1) i 0) (inv mark-is) ∙ getD-set-same index mark 1 0 (omega arith),
+  )
+
+-- LAW: laying the rows leaves an index an index
+pub index-laid : {file before after : List ℕ} → Index file before → RowsLaid file before after → length after ≡ length before → Index file after
+index-laid i laid long =
+    record {
+      room = omega (arith, i .room);
+      rows = laid .rows;
+      linked = λ mark.
+          let old = i .linked (inv (laid .rest _ (omega arith)) ∙ mark) in
+          record {
+            heads = λ h l. laid .rest _ (omega arith) ∙ old .heads h l;
+            links = λ k l. laid .rest _ (omega arith) ∙ old .links k l;
+          };
+    }
