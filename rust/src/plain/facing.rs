@@ -1,5 +1,6 @@
 //! The walk along pattern and heading: it finds a clash, and notes what faces each variable.
 
+use super::degrees::{answer, Asks};
 use super::matching::Question;
 use super::refuse;
 use super::table::TOP;
@@ -9,74 +10,102 @@ use crate::{Answer, VARIABLES};
 /// A subterm of the heading that faces a variable.
 #[derive(Clone, Copy)]
 pub struct Facing {
-    pub variable: u8,
+    pub variable: u16,
+    start: u16,
+    /// The note of the next subterm that faces the same variable, or none.
+    next: u16,
     /// Nothing that faces the variable was noted before.
     first: bool,
-    pub start: u16,
-    /// The note of the next subterm that faces the same variable; 0 for none, since note 0 is nobody's next.
-    next: u16,
 }
 
-/// Where the chain of a variable's notes ends, and how many nodes its first subterm has.
+/// The last of a variable's notes, or none, and how many nodes the first subterm has.
 #[derive(Clone, Copy)]
-pub struct Chain {
+struct Chain {
     last: u16,
-    pub nodes: u16,
-    pub count: u16,
+    nodes: u16,
 }
 
-pub struct Walk<'n> {
-    facing: &'n mut [Facing],
-    pub noted: usize,
-    chains: [Chain; VARIABLES],
+pub struct Walk<'a> {
+    question: &'a Question<'a>,
+    /// Where it has stopped in the pattern, and in the heading.
+    index: usize,
+    at: usize,
+    clash: Option<usize>,
     /// The least degree of a pattern's symbol with the one that faces it.
     pub least: u16,
+    facing: &'a mut [Facing],
+    pub noted: usize,
+    /// Some variable stands more than once.
+    pub repeats: bool,
+    chains: [Chain; VARIABLES],
 }
 
+const NONE: u16 = u16::MAX;
+
 impl Facing {
-    pub const NOTHING: Facing = Facing { variable: 0, first: false, start: 0, next: 0 };
+    pub const NOTHING: Facing = Facing { variable: 0, start: 0, next: NONE, first: false };
 }
 
 impl Chain {
-    const NONE: Chain = Chain { last: 0, nodes: 0, count: 0 };
+    const EMPTY: Chain = Chain { last: NONE, nodes: 0 };
 }
 
-impl<'n> Walk<'n> {
-    /// Without a clash so far pattern and heading have one shape, so each pattern's symbol is faced by the next node of the heading, and
-    /// each variable by the subterm there.
-    pub fn along(question: &Question, facing: &'n mut [Facing]) -> Answer<Self> {
-        let Question { table, pattern, heading, cut } = *question;
-        let mut walk = Walk { facing, noted: 0, chains: [Chain::NONE; VARIABLES], least: TOP };
-        let mut at = 0;
-        for (index, &node) in pattern.iter().enumerate() {
+impl Asks for Walk<'_> {
+    /// Without a clash so far pattern and heading have one shape, so each pattern's symbol is faced by the next node of the heading, and each
+    /// variable by the subterm there.
+    #[inline]
+    fn go_on(&mut self, at_most: usize, degree: impl Fn(u16, u16) -> u16) -> bool {
+        let Question { table, pattern, heading, cut } = *self.question;
+        let (mut at, mut left) = (self.at, at_most);
+        for (index, &node) in pattern.iter().enumerate().skip(self.index) {
+            let faced = heading[at];
             if let Some(variable) = variable(node) {
                 let nodes = nodes_at(table, heading, at);
-                walk.note(variable, at, nodes);
-                at += nodes;
-            } else {
-                let degree = table.degree(node, heading[at]);
-                if degree < cut {
-                    return refuse(9, index);
+                self.note(variable, at, nodes);
+                at += nodes - 1;
+            } else if node != faced {
+                if left == 0 {
+                    (self.index, self.at) = (index, at);
+                    return false;
                 }
-                walk.least = walk.least.min(degree);
-                at += 1;
+                left -= 1;
+                let degree = degree(node, faced);
+                if degree < cut {
+                    self.clash = Some(index);
+                    return true;
+                }
+                self.least = self.least.min(degree);
             }
+            at += 1;
         }
-        Ok(walk)
+        true
+    }
+}
+
+impl<'a> Walk<'a> {
+    pub fn along(question: &'a Question<'a>, facing: &'a mut [Facing]) -> Answer<Self> {
+        let chains = [Chain::EMPTY; VARIABLES];
+        let mut walk =
+            Walk { question, index: 0, at: 0, clash: None, least: TOP, facing, noted: 0, repeats: false, chains };
+        answer(question.table, question.pattern.len(), &mut walk);
+        match walk.clash {
+            Some(index) => refuse(9, index),
+            None => Ok(walk),
+        }
     }
 
+    #[inline(always)]
     fn note(&mut self, variable: usize, start: usize, nodes: usize) {
-        let this = self.noted as u16;
         let chain = &mut self.chains[variable];
-        let first = chain.count == 0;
+        let first = chain.last == NONE;
         if first {
             chain.nodes = nodes as u16;
         } else {
-            self.facing[usize::from(chain.last)].next = this;
+            self.facing[usize::from(chain.last)].next = self.noted as u16;
+            self.repeats = true;
         }
-        chain.last = this;
-        chain.count += 1;
-        self.facing[self.noted] = Facing { variable: variable as u8, first, start: start as u16, next: 0 };
+        chain.last = self.noted as u16;
+        self.facing[self.noted] = Facing { variable: variable as u16, start: start as u16, next: NONE, first };
         self.noted += 1;
     }
 
@@ -85,25 +114,24 @@ impl<'n> Walk<'n> {
         self.facing[..self.noted].iter().filter(|facing| facing.first)
     }
 
-    /// The notes behind this one that are about the same variable.
-    pub fn others(&self, first: &Facing) -> impl Iterator<Item = &Facing> {
-        let mut next = first.next;
-        std::iter::from_fn(move || {
-            if next == 0 {
-                return None;
+    /// How many nodes the subterm has that faces the variable at its first place.
+    pub fn nodes(&self, first: &Facing) -> usize {
+        usize::from(self.chains[usize::from(first.variable)].nodes)
+    }
+
+    /// What stands at one position of the subterms that face a variable. Where one of them has another shape than the first and ends before,
+    /// there is what comes behind it, if anything does: the first arities that differ leave the variable without a form, inside both.
+    #[inline(always)]
+    pub fn for_symbols(&self, first: &Facing, position: usize, mut hand_on: impl FnMut(u16)) {
+        let mut facing = first;
+        loop {
+            if let Some(&symbol) = self.question.heading.get(usize::from(facing.start) + position) {
+                hand_on(symbol);
             }
-            let facing = &self.facing[usize::from(next)];
-            next = facing.next;
-            Some(facing)
-        })
-    }
-
-    pub fn chain(&self, facing: &Facing) -> &Chain {
-        &self.chains[usize::from(facing.variable)]
-    }
-
-    /// The subterm that faces a variable at its first place.
-    pub fn part<'h>(&self, first: &Facing, heading: &'h [u16]) -> &'h [u16] {
-        &heading[usize::from(first.start)..][..usize::from(self.chain(first).nodes)]
+            match facing.next {
+                NONE => break,
+                next => facing = &self.facing[usize::from(next)],
+            }
+        }
     }
 }

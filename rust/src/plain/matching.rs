@@ -1,8 +1,9 @@
-//! The match on sound input. One walk along pattern and heading finds a clash and notes what faces each variable; one pass over the pairs
-//! gathers the near symbols of all; then each variable's sets are packed into the caller's buffer, intersected where it stands again.
+//! The match on sound input. One walk along pattern and heading finds a clash and notes what faces each variable; what is near to the symbols
+//! that do is gathered from the pairs; then the variables are settled, position by position, in the caller's buffers.
 
 use super::facing::{Facing, Walk};
-use super::near::{for_members, gather, intersect, Near};
+use super::near::{Gathered, Near, Places, Set, NOT_NEAR};
+use super::position::Faced;
 use super::refuse;
 use super::table::{Table, MAX_SYMBOLS, TOP};
 use crate::{Answer, Degrees, MAX_NODES, SPAN, WORDS};
@@ -14,24 +15,12 @@ pub struct Question<'a> {
     pub cut: u16,
 }
 
-/// Up to so many nodes that face variables which stand more than once, degrees are searched for.
-const FEW: usize = 32;
-
-/// Notes a variable's own degrees in its span; they are among those that the pattern's are the least of.
-fn own_degrees(variable: u8, spans: &mut [u16], degrees: &mut Degrees, lowest: u16, highest: u16) {
-    let at = SPAN * usize::from(variable);
-    spans[at + 2] = lowest;
-    spans[at + 3] = highest;
-    degrees.lowest = degrees.lowest.min(lowest);
-    degrees.highest = degrees.highest.min(highest);
-}
-
 impl<'a> Question<'a> {
     pub fn answer(&self, spans: &mut [u16], sets: &mut [u64]) -> Answer<Degrees> {
-        if self.pattern.len() <= 32 {
-            self.answer_with::<32>(spans, sets)
-        } else {
-            self.answer_with::<MAX_NODES>(spans, sets)
+        match self.pattern.len() {
+            0..=32 => self.answer_with::<32>(spans, sets),
+            33..=128 => self.answer_with::<128>(spans, sets),
+            _ => self.answer_with::<MAX_NODES>(spans, sets),
         }
     }
 
@@ -41,113 +30,84 @@ impl<'a> Question<'a> {
         let walk = Walk::along(self, &mut facing)?;
         spans.fill(0);
         if walk.noted == 0 {
-            sets.fill(0);
+            clear(sets);
             return Ok(Degrees { lowest: walk.least, highest: walk.least });
         }
-        match self.table.symbols() {
-            0..=16 => self.settle::<16>(&walk, spans, sets),
-            17..=64 => self.settle::<64>(&walk, spans, sets),
-            65..=256 => self.settle::<256>(&walk, spans, sets),
+        match self.table.size() {
+            16 => self.settle::<16>(&walk, spans, sets),
+            64 => self.settle::<64>(&walk, spans, sets),
+            256 => self.settle::<256>(&walk, spans, sets),
             _ => self.settle::<MAX_SYMBOLS>(&walk, spans, sets),
         }
     }
 
+    /// Gives places to the symbols that face variables, and chooses the size of what is kept for them. Where no variable stands twice, no
+    /// degrees by symbol are asked for.
     #[inline(never)]
     fn settle<const SYMBOLS: usize>(&self, walk: &Walk, spans: &mut [u16], sets: &mut [u64]) -> Answer<Degrees> {
-        let mut near = [Near::NOBODY; SYMBOLS];
-        gather(self.table, self.cut, &mut near);
-        let packed = self.pack(walk, &near, spans, sets)?;
-        sets[WORDS * packed..].fill(0);
-
-        let mut degrees = Degrees { lowest: walk.least, highest: walk.least };
-        let mut shared = 0;
+        let mut places = Places::<SYMBOLS>::NONE;
         for first in walk.firsts() {
-            let part = walk.part(first, self.heading);
-            let count = usize::from(walk.chain(first).count);
-            if count > 1 {
-                shared += count * part.len();
-            } else {
-                // The subterm that faces it is itself a form, and reaches the top.
-                let least = part.iter().map(|&symbol| near[usize::from(symbol)].least).min().unwrap_or(TOP);
-                own_degrees(first.variable, spans, &mut degrees, least, TOP);
+            for position in 0..walk.nodes(first) {
+                walk.for_symbols(first, position, |symbol| places.give(symbol));
             }
         }
-        match shared {
-            0 => {}
-            1..=FEW => self.share(walk, spans, sets, &mut degrees, |a, b| self.table.degree(a, b)),
-            _ => self.share_many::<SYMBOLS>(walk, spans, sets, &mut degrees),
+        match (walk.repeats, places.count) {
+            (false, 0..=8) => self.settle_with::<SYMBOLS, 0, 8>(walk, &places, spans, sets),
+            (false, _) => self.settle_with::<SYMBOLS, 0, SYMBOLS>(walk, &places, spans, sets),
+            (true, 0..=8) => self.settle_with::<SYMBOLS, SYMBOLS, 8>(walk, &places, spans, sets),
+            (true, 9..=32) => self.settle_with::<SYMBOLS, SYMBOLS, 32>(walk, &places, spans, sets),
+            (true, _) => self.settle_with::<SYMBOLS, SYMBOLS, SYMBOLS>(walk, &places, spans, sets),
         }
-        Ok(degrees)
     }
 
-    /// Packs the sets of each variable, in the order of first standing; how many positions that are.
-    fn pack(&self, walk: &Walk, near: &[Near], spans: &mut [u16], sets: &mut [u64]) -> Answer<usize> {
+    /// Packs the variables in the order in which they first stand in the pattern, each with its own degrees.
+    #[inline(never)]
+    fn settle_with<const SYMBOLS: usize, const ROW: usize, const PLACES: usize>(
+        &self,
+        walk: &Walk,
+        places: &Places<SYMBOLS>,
+        spans: &mut [u16],
+        sets: &mut [u64],
+    ) -> Answer<Degrees> {
+        let mut near = [Near::NOBODY; PLACES];
+        let mut degrees = [[NOT_NEAR; ROW]; PLACES];
+        let mut gathered = Gathered { near: &mut near, degrees: &mut degrees };
+        gathered.gather(self.table, self.cut, places);
+        let mut all = Degrees { lowest: walk.least, highest: walk.least };
         let mut formless: u32 = 0; // a bit for each variable without a form
+        let mut faced = Faced::<PLACES>::NOBODY;
         let mut packed = 0;
         for first in walk.firsts() {
-            let part = walk.part(first, self.heading);
-            let out = &mut sets[WORDS * packed..WORDS * (packed + part.len())];
-            for (words, &symbol) in out.chunks_exact_mut(WORDS).zip(part) {
-                words.copy_from_slice(&near[usize::from(symbol)].set);
-            }
-            for other in walk.others(first) {
-                // Where it has another shape, the first arities that differ leave an empty set, inside both subterms.
-                let part = &self.heading[usize::from(other.start)..];
-                for (words, &symbol) in out.chunks_exact_mut(WORDS).zip(part) {
-                    if !intersect(words, &near[usize::from(symbol)].set) {
-                        formless |= 1 << first.variable;
-                    }
+            let nodes = walk.nodes(first);
+            let mut own = Degrees { lowest: TOP, highest: TOP };
+            for position in 0..nodes {
+                let at = packed + position;
+                faced.clear();
+                walk.for_symbols(first, position, |symbol| faced.meet(at as u16 + 1, places, symbol));
+                let set: &mut Set = (&mut sets[WORDS * at..][..WORDS]).try_into().expect("a set's words");
+                let any = gathered.share(faced.places(), set);
+                match faced.places() {
+                    // One symbol: it reaches the top with itself.
+                    &[place] => own.lowest = own.lowest.min(gathered.near[usize::from(place)].least),
+                    _ if !any => formless |= 1 << first.variable,
+                    several if formless == 0 => gathered.degrees(set, several, &mut own),
+                    _ => {}
                 }
             }
-            let variable = usize::from(first.variable);
-            spans[SPAN * variable] = packed as u16;
-            spans[SPAN * variable + 1] = part.len() as u16;
-            packed += part.len();
+            let span = [packed as u16, nodes as u16, own.lowest, own.highest];
+            spans[SPAN * usize::from(first.variable)..][..SPAN].copy_from_slice(&span);
+            all = Degrees { lowest: all.lowest.min(own.lowest), highest: all.highest.min(own.highest) };
+            packed += nodes;
         }
-        if formless == 0 {
-            Ok(packed)
-        } else {
-            refuse(10, formless.trailing_zeros() as usize)
+        if formless != 0 {
+            return refuse(10, formless.trailing_zeros() as usize);
         }
+        clear(&mut sets[WORDS * packed..]);
+        Ok(all)
     }
+}
 
-    /// The degrees of the variables that stand more than once: a symbol's degree at a position is its least with those that face it
-    /// there. The degrees that are asked for all reach the cut.
-    fn share(&self, walk: &Walk, spans: &mut [u16], sets: &[u64], degrees: &mut Degrees, degree: impl Fn(u16, u16) -> u16) {
-        for first in walk.firsts().filter(|first| walk.chain(first).count > 1) {
-            let packed = usize::from(spans[SPAN * usize::from(first.variable)]);
-            let part = walk.part(first, self.heading);
-            let (mut lowest, mut highest) = (TOP, TOP);
-            for (position, (words, &symbol)) in sets[WORDS * packed..].chunks_exact(WORDS).zip(part).enumerate() {
-                let mut best = 0;
-                for_members(words, |member| {
-                    let mut least = degree(symbol, member);
-                    for other in walk.others(first) {
-                        least = least.min(degree(self.heading[usize::from(other.start) + position], member));
-                    }
-                    lowest = lowest.min(least);
-                    best = best.max(least);
-                });
-                highest = highest.min(best);
-            }
-            own_degrees(first.variable, spans, degrees, lowest, highest);
-        }
-    }
-
-    /// The same with a matrix of degrees, which pays for itself where many are asked for.
-    #[inline(never)]
-    fn share_many<const SYMBOLS: usize>(&self, walk: &Walk, spans: &mut [u16], sets: &[u64], degrees: &mut Degrees) {
-        let mut matrix = [[0u16; SYMBOLS]; SYMBOLS];
-        for (symbol, row) in matrix.iter_mut().enumerate() {
-            row[symbol] = TOP;
-        }
-        for pair in self.table.pairs() {
-            if pair.degree >= self.cut {
-                let (lower, higher) = (usize::from(pair.lower), usize::from(pair.higher));
-                matrix[lower][higher] = pair.degree;
-                matrix[higher][lower] = pair.degree;
-            }
-        }
-        self.share(walk, spans, sets, degrees, |a, b| matrix[usize::from(a)][usize::from(b)]);
-    }
+/// Fills the words with 0, in parts of 2 KB: the C library's way to clear more at once is counted as an instruction a byte.
+pub fn clear(words: &mut [u64]) {
+    words.chunks_mut(256).for_each(|part| part.fill(0));
 }

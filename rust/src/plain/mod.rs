@@ -2,18 +2,21 @@
 //! are compared by the tests. Safe code; scratch is on the stack, in classes by size, so that a small call clears little. Nothing is
 //! allocated, but for a long list of known strings in any order.
 
+mod degrees;
 mod facing;
 mod known;
 mod marc;
 mod matching;
 mod near;
+mod position;
+mod runs;
 mod saved;
 mod table;
 mod terms;
 mod writer;
 
 use crate::{Answer, Degrees, Pair, Refusal};
-use table::Table;
+use table::{Table, TOP};
 use terms::{check_heading, check_pattern};
 
 pub use marc::marc_heading;
@@ -34,6 +37,7 @@ pub fn symbol_degree(table: &[u8], a: u16, b: u16) -> Answer<u16> {
     let table = Table::read(table)?;
     match [a, b].iter().position(|&symbol| table.arity(symbol).is_none()) {
         Some(place) => refuse(13, place),
+        None if a == b => Ok(TOP),
         None => Ok(table.degree(a, b)),
     }
 }
@@ -53,7 +57,8 @@ pub fn heading_degree(table: &[u8], first: &[u16], second: &[u16]) -> Answer<u16
     let table = Table::read(table)?;
     check_heading(&table, first).or_else(|place| refuse(6, place))?;
     check_heading(&table, second).or_else(|place| refuse(7, place))?;
-    Ok(terms::degree(&table, first, second))
+    let [degree] = terms::degrees(&table, [(first, second)]);
+    Ok(degree)
 }
 
 /// The subterm at an index, as that part of the term. Where there is no such node, and where one of the two lists is refused, it is the empty
@@ -78,7 +83,8 @@ pub fn nearer<'a>(table: &[u8], heading: &[u16], first: &'a [u16], second: &'a [
     if [heading, first, second].iter().any(|nodes| check_heading(&table, nodes).is_err()) {
         return refused;
     }
-    if terms::degree(&table, heading, second) > terms::degree(&table, heading, first) {
+    let [of_first, of_second] = terms::degrees(&table, [(heading, first), (heading, second)]);
+    if of_second > of_first {
         second
     } else {
         first
@@ -96,7 +102,7 @@ pub fn match_heading(
     sets: &mut [u64],
 ) -> Answer<Degrees> {
     let table = Table::read(table)?;
-    if !(1..=table::TOP).contains(&cut) {
+    if !(1..=TOP).contains(&cut) {
         return refuse(5, 0);
     }
     check_pattern(&table, pattern).or_else(|place| refuse(6, place))?;
@@ -106,7 +112,7 @@ pub fn match_heading(
     }
     matching::Question { table: &table, pattern, heading, cut }.answer(spans, sets).map_err(|refusal| {
         spans.fill(0);
-        sets.fill(0);
+        matching::clear(sets);
         refusal
     })
 }

@@ -113,6 +113,24 @@ impl Drawn {
         Drawn::table(draw, symbols, hundredths)
     }
 
+    /// A table of constants, but for two symbols, and as many pairs of them as there can be, or half of these.
+    pub fn wide(draw: &mut Draw, symbols: usize) -> Self {
+        let mut arities = vec![0; symbols];
+        arities[draw.below(symbols)] = 8;
+        arities[draw.below(symbols)] = 2;
+        let hundredths = draw.one(&[50, 100]);
+        let constants: Vec<u16> = (0..symbols as u16).filter(|&symbol| arities[usize::from(symbol)] == 0).collect();
+        let mut pairs = Vec::new();
+        for (index, &lower) in constants.iter().enumerate() {
+            for &higher in &constants[index + 1..] {
+                if pairs.len() < 8192 && draw.chance(hundredths) {
+                    pairs.push(Pair { lower, higher, degree: draw.degree() });
+                }
+            }
+        }
+        Drawn::new(arities, pairs)
+    }
+
     /// The table with some pairs added and some degrees raised.
     pub fn richer(&self, draw: &mut Draw) -> Self {
         let symbols = self.arities.len() as u16;
@@ -280,4 +298,21 @@ pub fn damaged_pairs(draw: &mut Draw, symbols: usize, pairs: &[Pair]) -> Vec<Pai
         _ => pairs[at].higher = any,
     }
     pairs
+}
+
+/// The pairs with each number of each in turn changed to others, most of them no longer sound.
+pub fn each_changed(symbols: usize, pairs: &[Pair], mut ask: impl FnMut(&[Pair])) {
+    let mut changed = pairs.to_vec();
+    let others = |n: u16| [n.wrapping_sub(1), n + 1, 0, symbols as u16 - 1, symbols as u16, 999, 1000, 32768, 65535];
+    for (at, &pair) in pairs.iter().enumerate() {
+        let Pair { lower, higher, degree } = pair;
+        let with_lower = others(lower).map(|lower| Pair { lower, ..pair });
+        let with_higher = others(higher).map(|higher| Pair { higher, ..pair });
+        let with_degree = others(degree).map(|degree| Pair { degree, ..pair });
+        for other in [with_lower, with_higher, with_degree].concat() {
+            changed[at] = other;
+            ask(&changed);
+        }
+        changed[at] = pair;
+    }
 }

@@ -83,6 +83,30 @@ fn large_matches() {
     told("matches, large", asked, 2_000);
 }
 
+/// Wide sets and variables that stand often: nearly all symbols are constants, and near to many others.
+#[test]
+fn wide_matches() {
+    let mut draw = Draw::new(23);
+    let mut asked = 0;
+    let mut given: Given = [0; 12];
+    for _ in 0..12 {
+        for symbols in [12, 16, 17, 63, 64, 65, 120, 128, 200, 256, 257, 320, 512] {
+            let table = Drawn::wide(&mut draw, symbols);
+            let mut asker = Asker::new(&table.file());
+            for _ in 0..4 {
+                let (pattern_nodes, form_nodes) = draw.one(&[(9, 100), (17, 40), (60, 9), (200, 1), (900, 1)]);
+                let (pattern, heading) = table.question(&mut draw, pattern_nodes, form_nodes);
+                let cut = draw.one(&CUTS);
+                given[asker.match_in_room(&pattern, &heading, cut)] += 1;
+                given[asker.match_in_room(&pattern, &heading, 1)] += 1;
+            }
+            asked += asker.asked;
+        }
+    }
+    assert!(given[0] > 400 && given[9] > 20 && given[10] > 20, "{:?}", given);
+    told("matches, wide", asked, 1_200);
+}
+
 /// Something is wrong with one or two of what was lent, so that the order of the tests shows.
 #[test]
 fn damaged_questions() {

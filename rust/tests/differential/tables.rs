@@ -1,7 +1,7 @@
 //! Is it a table, what does it say of two symbols, and what is read back from it.
 
 use crate::asks::{told, Asker};
-use crate::draw::{damaged_file, damaged_pairs, file_of, Draw, Drawn};
+use crate::draw::{damaged_file, damaged_pairs, each_changed, file_of, Draw, Drawn};
 use shuuxideg::{proved, Refusal};
 
 /// All that can be asked of a table alone, for numbers in it and beside it.
@@ -114,6 +114,24 @@ fn large_tables() {
         asked += ask_all(&mut draw, &file_of(&table.arities, &changed), symbols, pairs);
     }
     told("tables, large", asked, 8_000);
+}
+
+/// Tables are tested many pairs at a time: a fault at every place, with as many pairs as make one time more or not yet.
+#[test]
+fn each_number_of_many_pairs() {
+    let mut draw = Draw::new(4);
+    let mut asked = 0;
+    for count in [17, 18, 19, 32, 33, 34, 35, 65, 66, 67, 100] {
+        for symbols in [60, 300] {
+            let table = Drawn::table(&mut draw, symbols, 90);
+            each_changed(symbols, &table.pairs[..count], |pairs| {
+                let mut asker = Asker::new(&file_of(&table.arities, pairs));
+                asker.check_table();
+                asked += asker.asked;
+            });
+        }
+    }
+    told("tables, each number of many pairs", asked, 26_000);
 }
 
 /// Counts at and beyond their limits, with a file that is as long as they ask for.

@@ -1,7 +1,7 @@
 //! The table writer: the whole output compared, and what was written read back.
 
 use crate::asks::{told, write_table, Asker};
-use crate::draw::{damaged_pairs, file_of, Draw, Drawn};
+use crate::draw::{damaged_pairs, each_changed, file_of, Draw, Drawn};
 use shuuxideg::Pair;
 
 /// Writes into each of these rooms; a file that was written is the right one, and a table.
@@ -56,6 +56,20 @@ fn large_tables() {
         asked += write_in(&table.arities, &table.pairs, &rooms);
     }
     told("writer, large", asked, 1_200);
+}
+
+#[test]
+fn each_number_of_many_pairs() {
+    let mut draw = Draw::new(32);
+    let mut asked = 0;
+    for count in [33, 34, 66, 100] {
+        for symbols in [60, 300] {
+            let table = Drawn::table(&mut draw, symbols, 90);
+            let room = 10 + symbols + 6 * count;
+            each_changed(symbols, &table.pairs[..count], |pairs| asked += write_in(&table.arities, pairs, &[room]));
+        }
+    }
+    told("writer, each number of many pairs", asked, 12_000);
 }
 
 #[test]

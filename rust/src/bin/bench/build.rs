@@ -26,7 +26,7 @@ pub struct Table {
 }
 
 impl Table {
-    fn new(arities: Vec<u8>, pairs: Vec<Pair>) -> Self {
+    pub fn new(arities: Vec<u8>, pairs: Vec<Pair>) -> Self {
         let mut file = vec![0; 10 + arities.len() + 6 * pairs.len()];
         shuuxideg::plain::write_table(&arities, &pairs, &mut file).expect("a sound table");
         let mut degrees = vec![vec![0; arities.len()]; arities.len()];

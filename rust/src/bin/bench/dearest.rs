@@ -1,0 +1,31 @@
+//! The hardest questions that are known for a match: wide sets in which every member has to be looked at, at every position.
+
+use crate::calls::answer;
+use crate::wide::{Degrees, Wide};
+use crate::Workload;
+
+const TIMES: usize = 3;
+
+/// As many shared constants as there can be beside enough that face variables.
+const TABLES: [Wide; 2] = [
+    Wide { symbols: 256, faced: 28, shared: 224, degrees: Degrees::Falling },
+    Wide { symbols: 512, faced: 16, shared: 492, degrees: Degrees::Falling },
+];
+
+pub fn workloads() -> Vec<Workload> {
+    let of_each = |table: Wide| {
+        let about = format!("{} symbols, {} shared", table.symbols, table.shared);
+        let workload = |name: &str, title: &str, make: fn(&Wide) -> crate::questions::Question| {
+            let (name, title) = (format!("dear-{}-{}", table.symbols, name), format!("{}, {}", about, title));
+            Workload::new(&name, &title, TIMES, move || answer(make(&table)))
+        };
+        [
+            workload("2", "x twice, 505 positions", |table| table.few_times(2, 63)),
+            workload("4", "x four times, 249 positions", |table| table.few_times(4, 31)),
+            workload("8", "x eight times, 121 positions", |table| table.few_times(8, 15)),
+            workload("890", "x 890 times", Wide::many_times),
+            workload("28", "32 variables 28 times each", |table| table.by_turns(32)),
+        ]
+    };
+    TABLES.into_iter().flat_map(of_each).collect()
+}
