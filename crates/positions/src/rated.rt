@@ -167,8 +167,8 @@ fn rate(
     }
 }
 
-// The degrees at a position, with those of the positions before it. `many` says that so many nodes face variables that it may pay to lay degrees
-// out side by side.
+// The degrees at a position, with those of the positions before it. `many` says that a set may have so many symbols that it pays to lay degrees out
+// side by side.
 pub fn degrees_at(
     table: &[u8],
     index: &mut [u16],

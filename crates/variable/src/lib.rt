@@ -20,8 +20,8 @@ use sets::SymbolSet;
 use table::read::counts_of;
 use wide::Degrees;
 
-// It may pay to lay degrees out side by side where the heading has a node for so many pairs at least.
-const PAIRS_A_NODE: usize = 64;
+// In a table of up to so many symbols it does not pay to count the symbols of a set, nor to lay degrees out side by side.
+const SMALL_TABLE: u16 = 64;
 
 pub struct Found {
     // some term may stand for the variable
@@ -64,7 +64,7 @@ fn pack_shared(
     ensures { λ r. ⌜ VariablePacked (tableIn (now (table .entry))) (now (near .entry)) (now (heading .entry)) (now (notes .entry)) (now (sets .entry)) (now (sets .exit)) r ⌝ }
 {
     let counts = counts_of(table);
-    let many = heading.len() > counts.pairs as usize / PAIRS_A_NODE;
+    let many = counts.symbols > SMALL_TABLE;
     // the first subterm has as many nodes as the variable has positions
     let positions = note_at(notes, 0).size as usize;
     lay_where_worth(table, counts, index, heading.len());

@@ -58,9 +58,6 @@ few-positions c =
 counts-of-requires : tie.Need-counts-of-requires Inv-loop μ-loop
 counts-of-requires c κs = search needs
 
-cast-many : tie.Need-cast-many Inv-loop μ-loop
-cast-many c = search needs
-
 note-at-requires : tie.Need-note-at-requires Inv-loop μ-loop
 note-at-requires c κs = omega (arith, c .before .before .before .before .before .before .before .before .pre .0 .2 .some)
 
@@ -158,7 +155,6 @@ pack-shared-spec =
     Inv-loop
     μ-loop
     counts-of-requires
-    cast-many
     note-at-requires
     cast-positions
     lay-where-worth-requires
