@@ -60,7 +60,7 @@ impl<'a> Question<'a> {
         }
     }
 
-    /// Packs the variables in the order in which they first stand in the pattern, each with its own degrees.
+    /// Packs each variable, with its own degrees, where the pattern first has it.
     #[inline(never)]
     fn settle_with<const SYMBOLS: usize, const ROW: usize, const PLACES: usize>(
         &self,
