@@ -1,6 +1,6 @@
 -- The lowest and the highest degree at a position, with what the positions before it gave: all shared symbols are gone through, or so many that
 -- the rest can change neither, or their degrees are laid out side by side; and where one symbol stands alone, its near set tells them.
-use mathlib.Core.Path.{_≡_, refl, sym as inv, ap, _∙_, subst}
+use mathlib.Core.Path.{_≡_, refl, sym as inv, ap, _∙_}
 use mathlib.Core.List.{List}
 use mathlib.Core.Bool.{Bool, true, false, _&&_, cond}
 use Prim.Native.Nat.{ℕ, zero, suc, _+_, _≤_, _<_, min, max}
@@ -16,10 +16,8 @@ use Rattle.sets.specs.Words.{NoneBetween}
 use Rattle.near.specs.Near.{isNear}
 use Rattle.wide.specs.Shared.{sharedBy}
 use Rattle.wide.specs.declared.Degrees.{Degrees}
-use Rattle.positions.specs.Position.{inShared, lowestShared, highestShared, floorOf, SharedIs, Rated, Alone}
-use Rattle.positions.specs.Looked.{RatedBy, RatedAt, FewRated}
-use Rattle.positions.specs.declared.rated.Few.{Few}
-use Rattle.positions.specs.declared.rated.Few.the-variants.{Known}
+use Rattle.positions.specs.Position.{inShared, lowestShared, highestShared, floorOf, SharedIs, Rated}
+use Rattle.positions.specs.Looked.{RatedBy, RatedAt}
 use Rattle.positions.proofs.Members.{lowest-same, highest-same, lowest-fewer, highest-fewer, fewest-in, most-in}
 use Rattle.positions.proofs.Sharing.{cut-floor, floor-shared}
 
@@ -115,7 +113,7 @@ module _ (T : Table) (faced : List ℕ) where
 
   -- ---- one symbol alone
 
-  module _ (L : Lawful T) {cut : ℕ} (top : cut ≤ 1000) (h : ℕ) (inside : h < T .size) (only : (k : ℕ) → k < T .size → member faced k ≡ eqb k h) where
+  module _ (L : Lawful T) {cut : ℕ} (top : cut ≤ 1000) (h : ℕ) (inside : h < T .size) (only : (k : ℕ) → member faced k ≡ eqb k h) where
     alone : (f : ℕ → ℕ) → f h ≤ 1000 → fewest (member faced) f (T .size) ≡ f h
     alone f most = omega (arith, below, above)
       where
@@ -123,14 +121,14 @@ module _ (T : Table) (faced : List ℕ) where
         g k = cond (member faced k) (f k) 1000
 
         below : fewest (member faced) f (T .size) ≤ f h
-        below = rw (only h inside ∙ eq-eqb h h refl) at (lowest-le (T .size) g h inside)
+        below = rw (only h ∙ eq-eqb h h refl) at (lowest-le (T .size) g h inside)
 
         above : f h ≤ fewest (member faced) f (T .size)
-        above = le-lowest (T .size) g (f h) most (λ k l. at k l (ℕ-discrete k h))
+        above = le-lowest (T .size) g (f h) most (λ k l. at k (ℕ-discrete k h))
           where
-            at : (k : ℕ) → k < T .size → Dec (k ≡ h) → f h ≤ g k
-            at k l (yes e) = rw (only k l ∙ eq-eqb k h e, e) (omega arith)
-            at k l (no e) = rw (only k l ∙ ne-eqb k h e) most
+            at : (k : ℕ) → Dec (k ≡ h) → f h ≤ g k
+            at k (yes e) = rw (only k ∙ eq-eqb k h e, e) (omega arith)
+            at k (no e) = rw (only k ∙ ne-eqb k h e) most
 
     pub rated-alone : {set : List ℕ} {floor before high : ℕ} → SharedIs T cut faced set floor → high ≤ 1000 → Rated T cut faced before high (min before floor) high
     rated-alone {floor = floor} {before} {high} is small =
@@ -167,19 +165,14 @@ module _ (T : Table) (faced : List ℕ) where
 
 module _ {T : Table} {faced set : List ℕ} {floor : ℕ} {before : Degrees} (low-top : before .lowest ≤ 1000) (high-top : before .highest ≤ 1000) where
   -- LAW: one symbol stands there alone
-  pub at-alone : {n low : ℕ} → n ≡ T .size → Alone n faced → low ≡ min (before .lowest) floor
+  pub at-alone : {h low : ℕ} → h < T .size → ((k : ℕ) → member faced k ≡ eqb k h) → low ≡ min (before .lowest) floor
       → RatedAt T faced set floor before (record { lowest = low; highest = before .highest })
-  at-alone {n} size alone is =
+  at-alone {h} inside only is =
       record {
         lowest-falls = omega arith;
         highest-falls = omega arith;
-        rated = λ cut L top shared.
-            rw is (rated-alone T faced L top (alone .symbol) (omega (arith, alone .inside)) (λ k l. alone .only k (omega arith)) shared high-top);
+        rated = λ cut L top shared. rw is (rated-alone T faced L top h inside only shared high-top);
       }
-
-  -- LAW: few symbols tell
-  pub at-few : {few : Few} {r : Degrees} → few ≡ Known r → FewRated T faced set floor before few → RatedAt T faced set floor before r
-  at-few e f = subst (FewRated T faced set floor before) e f
 
   -- LAW: degrees are laid out side by side
   pub at-many : {r : Degrees} → RatedBy T faced floor before r → RatedAt T faced set floor before r

@@ -4,10 +4,10 @@ use mathlib.Core.Path.{_≡_, refl, sym as inv, ap, ap₂, _∙_}
 use mathlib.Core.List.{List}
 use mathlib.Core.Bool.{Bool, true, false, _&&_, cond, false≢true}
 use Prim.Native.Nat.{ℕ, _+_, _-_, _≤_, _<_, min}
-use native.Mathlib.Decide.{decLt, decLe}
+use native.Mathlib.Decide.{decLt, decLe, ℕ-discrete}
 use native.Mathlib.Omega.{arith}
-use borrow.Author.Tests.{lt-ltb, le-ltb, le-leb, lt-leb, leb-true}
-use lib.Dec.{ltb, leb}
+use borrow.Author.Tests.{lt-ltb, le-ltb, le-leb, lt-leb, leb-true, eq-eqb, ne-eqb}
+use lib.Dec.{ltb, leb, eqb}
 use lib.ListN.{length}
 use Rattle.theory.specs.Table.{Table, Lawful}
 use Rattle.theory.specs.Least.{lowest}
@@ -112,6 +112,20 @@ module _ (T : Table) (cut : ℕ) (faced : List ℕ) where
           go : (b : Bool) → member faced h ≡ b → b ≡ false
           go false e = refl
           go true e = absurd (omega (arith, symbols h e))
+
+  -- LAW: one alone
+  pub met-alone : {h floor : ℕ} {set : List ℕ} → Lawful T → h < T .size → ((k : ℕ) → member faced k ≡ eqb k h) → ((s : ℕ) → member set s ≡ isNear T cut h s)
+      → floor ≡ lowestNear h → SharedIs T cut faced set floor
+  met-alone {h} L inside only near low =
+      met-all {m = T .size} (omega arith) (λ k e. at-most k (ℕ-discrete k h) e)
+      (met-out {m = h + 1} (omega arith) (λ k l m. other k (λ e. omega arith)) (met-first L (λ k l m. other k (λ e. omega arith)) (only h ∙ eq-eqb h h refl) near low))
+    where
+      other : (k : ℕ) → (k ≡ h → ⊥) → member faced k ≡ false
+      other k d = only k ∙ ne-eqb k h d
+
+      at-most : (k : ℕ) → Dec (k ≡ h) → member faced k ≡ true → k < T .size
+      at-most k (yes e) is = omega arith
+      at-most k (no d) is = absurd (false≢true (inv (other k d) ∙ is))
 
 -- ---- the floor
 

@@ -89,6 +89,17 @@ module _ (heading notes : List ℕ) (k : ℕ) where
           let old = s .only h (inv (or-false (member symbols h)) ∙ (rw (ne-eqb h here e) at f)) in
           (old .0, omega (arith, old .1), old .2)
 
+  -- LAW: one symbol, the first subterm's, stands in all of them
+  pub stand-alone : (n first : ℕ) (symbols : List ℕ) → 0 < n → first ≡ getD heading (startOf notes 0 + k) 0
+      → ((o : ℕ) → o < n → getD heading (startOf notes o + k) 0 ≡ first) → StandAt heading notes k n symbols
+      → (h : ℕ) → member symbols h ≡ eqb h first
+  stand-alone n first symbols some is same s h = go (ℕ-discrete h first) (member symbols h) refl
+    where
+      go : Dec (h ≡ first) → (b : Bool) → member symbols h ≡ b → b ≡ eqb h first
+      go (yes e) b m = inv m ∙ ap (member symbols) (e ∙ is) ∙ s .each 0 some ∙ inv (eq-eqb h first e)
+      go (no d) true m = let o = s .only h m in absurd (d (inv (o .2) ∙ same (o .0) (o .1)))
+      go (no d) false m = inv (ne-eqb h first d)
+
 -- ---- what the subterms share there
 
 all-at : {A : Type 0} (P : A → Type 0) (z : A) (xs : List A) → ((o : ℕ) → o < length xs → P (getD xs o z)) → All P xs

@@ -4,7 +4,7 @@ use mathlib.Core.Path.{_≡_}
 use mathlib.Core.List.{List}
 use mathlib.Core.Bool.{Bool, true, _&&_, cond}
 use Prim.Native.Nat.{ℕ, _+_, _/_, _≤_, _<_, min}
-use lib.Dec.{ltb, leb, eqb}
+use lib.Dec.{ltb, leb}
 use lib.ListN.{length, getD}
 use Rattle.theory.specs.Table.{Table, Lawful}
 use Rattle.theory.specs.Least.{lowest, highest}
@@ -92,9 +92,3 @@ module _ (T : Table) (cut : ℕ) (faced : List ℕ) where
 -- set and floor are those of whatever table and cut the near sets are of
 abbrev pub SharedBy : List ℕ → ℕ → List ℕ → List ℕ → ℕ → Type 0
 SharedBy near symbols faced set floor = (T : Table) (cut : ℕ) → T .size ≡ symbols → NearTo T cut near faced → SharedIs T cut faced set floor
-
--- One of the numbers below n is in the set, and no other.
-pub record Alone (n : ℕ) (faced : List ℕ) : Type 0 where
-  pub symbol : ℕ
-  pub inside : symbol < n
-  pub only : (k : ℕ) → k < n → member faced k ≡ eqb k symbol

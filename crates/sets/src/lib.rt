@@ -47,17 +47,6 @@ impl SymbolSet {
         SymbolSet { words }
     }
 
-    // The set with symbol k in it too. One bit is set, so that this costs the same however many words a set has.
-    pub fn with(self, k: u16) -> SymbolSet
-        requires { ⌜ k < setRoom ⌝ }
-        ensures { λ r. ⌜ ((j : ℕ) → member (r .words) j ≡ (member (self .words) j || eqb j k)) ⌝ }
-    {
-        let mut words = self.words;
-        let at = (k / SymbolSet::BITS) as usize;
-        words[at] = words[at] | 1u64 << (k % SymbolSet::BITS);
-        SymbolSet { words }
-    }
-
     // The least symbol of the set that is not below `from`, as `next_member` says.
     pub fn next(self, from: u16, end: u16) -> u16
         requires { ⌜ (from ≤ setRoom) × (end ≤ setRoom) ⌝ }
@@ -127,6 +116,15 @@ impl SymbolSet {
         }
         true
     }
+}
+
+// Puts symbol k into a set. The words are lent, so that one bit is set where it stands, at the same cost however many words a set has.
+pub fn insert(words: &mut [u64], k: u16)
+    requires { ⌜ (k < setRoom) × (setWords ≤ length (now words)) ⌝ }
+    ensures { λ _. ⌜ ((j : ℕ) → member (now (words .exit)) j ≡ (member (now (words .entry)) j || eqb j k)) ⌝ }
+{
+    let at = (k / SymbolSet::BITS) as usize;
+    words[at] = words[at] | 1u64 << (k % SymbolSet::BITS);
 }
 
 // The least symbol of a set that is not below `from`, or some number that is not below `end` where none is below that. Words past the end

@@ -11,39 +11,32 @@ use Rattle.positions.proofs.rated.few_degrees.Statement.{statement}
 use Rattle.positions.proofs.rated.few_degrees.Tie as tie
 
 abbrev Inv-loop : tie.InvT-loop
-Inv-loop table index faced shared before many counts symbols set lowest₀ best₀ left₀ s₀ lowest best left s =
+Inv-loop table index faced shared before counts symbols set lowest₀ best₀ s₀ lowest best s =
     (s < symbols → member (set .words) s ≡ true) × RatedTo (tableIn table) (faced .words) (set .words) (before .lowest) s lowest best
 
 abbrev μ-loop : tie.MeasureT-loop
-μ-loop table index faced shared before many counts symbols set lowest₀ best₀ left₀ s₀ lowest best left s =
-    symbols - s
+μ-loop table index faced shared before counts symbols set lowest₀ best₀ s₀ lowest best s = symbols - s
 
 counts-of-requires : tie.Need-counts-of-requires Inv-loop μ-loop
 counts-of-requires c κs = search needs
-
-patience-requires : tie.Need-patience-requires Inv-loop μ-loop
-patience-requires c κs = search needs
 
 next-member-requires : tie.Need-next-member-requires Inv-loop μ-loop
 next-member-requires c κs = search needs
 
 loop-holds : tie.Need-loop-holds Inv-loop μ-loop
 loop-holds c =
-    let start = c .before .before .before .before .before .before .before .before .before .before in
+    let start = c .before .before .before .before .before .before .before in
     let a = start .args in
     let found = c .next-member .ensures in
     (found .is, rated-out _ _ (rated-none (tableIn (a .table .now)) (a .faced .words) (a .shared .set .words) (a .before .lowest) (start .pre .2)) (found .not-below) (found .none))
 
-returns : tie.Need-returns Inv-loop μ-loop
-returns c = search needs
-
 -- one symbol more is looked up
 looked-up : (c : tie.After-greater Inv-loop μ-loop)
-    → let loop = c .before .before .before .before .before .loop in
-    let a = c .before .before .before .before .before .before .before .before .before .before .before .before .before .before .before .before .args in
+    → let loop = c .before .before .before .before .loop in
+    let a = c .before .before .before .before .before .before .before .before .before .before .before .before .args in
     RatedTo (tableIn (a .table .now)) (a .faced .words) (a .shared .set .words) (a .before .lowest) (loop .s + 1) (c .before .lesser .result) (c .greater .result)
 looked-up c =
-    let loop = c .before .before .before .before .before .loop in
+    let loop = c .before .before .before .before .loop in
     rated-in _ _ (loop .inv .1) (loop .inv .0 (omega arith)) (c .before .before .shared-degree .ensures) (c .before .lesser .ensures) (c .greater .ensures)
 
 shared-degree-requires : tie.Need-shared-degree-requires Inv-loop μ-loop
@@ -58,10 +51,10 @@ greater-requires c κs = search needs
 is-settled-requires : tie.Need-is-settled-requires Inv-loop μ-loop
 is-settled-requires c κs = search needs
 
-returns-2 : tie.Need-returns-2 Inv-loop μ-loop
-returns-2 c =
+returns : tie.Need-returns Inv-loop μ-loop
+returns c =
     let r = looked-up (c .before .before) in
-    let t = c .before .is-settled .ensures (c .if2 .taken) in
+    let t = c .before .is-settled .ensures (c .if1 .taken) in
     record {
       lowest-falls = omega (arith, r .lows);
       highest-falls = omega arith;
@@ -73,9 +66,6 @@ add-next-member c = search needs
 
 next-member-requires-2 : tie.Need-next-member-requires-2 Inv-loop μ-loop
 next-member-requires-2 c κs = search needs
-
-sub-left : tie.Need-sub-left Inv-loop μ-loop
-sub-left c = search needs
 
 loop-less : tie.Need-loop-less Inv-loop μ-loop
 loop-less c = search needs
@@ -89,9 +79,9 @@ loop-again c =
 lesser-requires-2 : tie.Need-lesser-requires-2 Inv-loop μ-loop
 lesser-requires-2 c κs = search needs
 
-returns-3 : tie.Need-returns-3 Inv-loop μ-loop
-returns-3 c =
-    let counted = c .before .before .before .before .before .before .before .before .before .before .counts-of .ensures in
+returns-2 : tie.Need-returns-2 Inv-loop μ-loop
+returns-2 c =
+    let counted = c .before .before .before .before .before .before .before .counts-of .ensures in
     let r = c .before .before .loop .inv .1 in
     record {
       lowest-falls = omega (arith, r .lows);
@@ -106,19 +96,16 @@ few-degrees-spec =
     Inv-loop
     μ-loop
     counts-of-requires
-    patience-requires
     next-member-requires
     loop-holds
-    returns
     shared-degree-requires
     lesser-requires
     greater-requires
     is-settled-requires
-    returns-2
+    returns
     add-next-member
     next-member-requires-2
-    sub-left
     loop-less
     loop-again
     lesser-requires-2
-    returns-3)
+    returns-2)

@@ -1,18 +1,20 @@
--- Nothing is promised of the number but that it is found.
+-- A table of few symbols is told at once; of the others nothing is promised but that the walk over the words ends.
 use borrow.Author.Needs.{needs}
+use mathlib.Core.Bool.{false≢true}
 use Prim.Native.Nat.{_≤_, _-_}
+use native.Mathlib.Omega.{arith}
 use Rattle.meaning.specs.Limits.{setWords}
-use Rattle.positions.proofs.rated.patience.Statement.{statement}
-use Rattle.positions.proofs.rated.patience.Tie as tie
+use Rattle.positions.proofs.rated.is_large.Statement.{statement}
+use Rattle.positions.proofs.rated.is_large.Tie as tie
 
 abbrev Inv-loop : tie.InvT-loop
-Inv-loop words many i₀ i = i ≤ setWords
+Inv-loop symbols words i₀ i = i ≤ setWords
 
 abbrev μ-loop : tie.MeasureT-loop
-μ-loop words many i₀ i = setWords - i
+μ-loop symbols words i₀ i = setWords - i
 
 returns : tie.Need-returns Inv-loop μ-loop
-returns c = search needs
+returns c = λ e. absurd (false≢true e)
 
 loop-holds : tie.Need-loop-holds Inv-loop μ-loop
 loop-holds c = search needs
@@ -24,7 +26,7 @@ element-copy-out-if2 : tie.Need-element-copy-out-if2 Inv-loop μ-loop
 element-copy-out-if2 c = search needs
 
 returns-2 : tie.Need-returns-2 Inv-loop μ-loop
-returns-2 c = search needs
+returns-2 c = λ e. omega arith
 
 add-i : tie.Need-add-i Inv-loop μ-loop
 add-i c = search needs
@@ -36,10 +38,10 @@ loop-again : tie.Need-loop-again Inv-loop μ-loop
 loop-again c = search needs
 
 returns-3 : tie.Need-returns-3 Inv-loop μ-loop
-returns-3 c = search needs
+returns-3 c = λ e. absurd (false≢true e)
 
-pub patience-spec : {M : Type 1} → statement M
-patience-spec =
+pub is-large-spec : {M : Type 1} → statement M
+is-large-spec =
     tie.close
     (tie.spec
     Inv-loop
