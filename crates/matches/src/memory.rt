@@ -17,6 +17,7 @@ use refusal::Outcome;
 use sets::SymbolSet;
 use table::read::Counts;
 use table::read::counts_of;
+use wide::KEPT_ROWS;
 
 // What stands in memory before it is written. Nothing reads it; it is no 0, since zeros are laid byte by byte where other numbers are laid by
 // whole words.
@@ -38,12 +39,17 @@ const MORE_NEAR: usize = MORE_SYMBOLS as usize * NEAR_WORDS;
 
 const ALL_NEAR: usize = SymbolSet::ROOM as usize * NEAR_WORDS;
 
-// The index of as many: two numbers of its row and one head of a chain for each symbol, a mark, and a link for each pair.
+// The index of as many: two numbers of its row and one head of a chain for each symbol, a mark, and a link for each pair. A table that is not small has
+// the degrees of some symbols with all others besides, and a tag for each.
 const FEW_INDEX: usize = 3 * FEW_SYMBOLS as usize + 1 + FEW_PAIRS as usize;
 
-const MORE_INDEX: usize = 3 * MORE_SYMBOLS as usize + 1 + ALL_PAIRS;
+const MORE_KEPT: usize = KEPT_ROWS as usize * (MORE_SYMBOLS as usize + 1);
 
-const ALL_INDEX: usize = 3 * SymbolSet::ROOM as usize + 1 + ALL_PAIRS;
+const MORE_INDEX: usize = 3 * MORE_SYMBOLS as usize + 1 + ALL_PAIRS + MORE_KEPT;
+
+const ALL_KEPT: usize = KEPT_ROWS as usize * (SymbolSet::ROOM as usize + 1);
+
+const ALL_INDEX: usize = 3 * SymbolSet::ROOM as usize + 1 + ALL_PAIRS + ALL_KEPT;
 
 // The nodes of a small pattern, and the notes of them, two numbers each, and of any pattern's.
 const FEW_NODES: usize = 64;

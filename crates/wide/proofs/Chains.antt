@@ -20,7 +20,8 @@ use Rattle.meaning.proofs.Bits.{getD-zeros}
 use Rattle.degrees.specs.Rows.{Rows, RowsLaid}
 use Rattle.degrees.proofs.Listed.{pair-symbols}
 use Rattle.degrees.proofs.Narrowing.{rows-anywhere}
-use Rattle.wide.specs.Index.{lastWith, linkedAt, headsAt, linksAt, indexRoom, Linked, Index, Chained}
+use Rattle.wide.specs.Index.{lastWith, keptRows, linkedAt, headsAt, linksAt, tagsAt, indexRoom, Linked, Index, Chained}
+use Rattle.wide.specs.Laid.{Cleared}
 
 -- ---- the last pair with a higher symbol
 
@@ -72,12 +73,12 @@ module _ (file : List ℕ) (ok : SoundFile file) (before after : List ℕ) where
       symbol : (k : ℕ) → k < pairCount file → lowerAt file k < tableIn file .size
       symbol k l = pair-symbols file ok k l .0
 
-  -- LAW: .. and chains where what is behind the mark does
-  pub linked-kept : (n : ℕ) → ((i : ℕ) → headsAt file ≤ i → getD after i 0 ≡ getD before i 0) → Linked file n before → Linked file n after
-  linked-kept n same linked =
+  -- LAW: .. and chains where what stands from the mark to the tags does
+  pub linked-kept : ((i : ℕ) → headsAt file ≤ i → i < tagsAt file → getD after i 0 ≡ getD before i 0) → Linked file (pairCount file) before → Linked file (pairCount file) after
+  linked-kept same linked =
       record {
-        heads = λ h l. same (headsAt file + h) (omega arith) ∙ linked .heads h l;
-        links = λ k l. same (linksAt file + k) (omega arith) ∙ linked .links k l;
+        heads = λ h l. same (headsAt file + h) (omega arith) (omega arith) ∙ linked .heads h l;
+        links = λ k l. same (linksAt file + k) (omega arith) (omega arith) ∙ linked .links k l;
       }
 
 -- ---- one pair more
@@ -137,6 +138,7 @@ module _ (file : List ℕ) (ok : SoundFile file) (index : List ℕ) (room : inde
         rows = rows-kept file ok (zeros (length index)) index (inv (length-replicate {A = ℕ} (length index) 0)) (λ i m. cleared i (omega arith) ∙ inv (getD-zeros (length index) i))
             (rows-anywhere file (zeros (length index)) (rw (length-replicate {A = ℕ} (length index) 0) (omega arith)) (ap zeros (inv (length-replicate {A = ℕ} (length index) 0))));
         linked = λ mark. absurd (omega (arith, cleared (linkedAt file) (omega arith)));
+        kept = λ mark. absurd (omega (arith, cleared (linkedAt file) (omega arith)));
       }
 
   -- LAW: no pair is chained where the heads are 0
@@ -146,14 +148,24 @@ module _ (file : List ℕ) (ok : SoundFile file) (index : List ℕ) (room : inde
 
 -- ---- the mark
 
-module _ (file : List ℕ) (ok : SoundFile file) (mark : ℕ) (mark-is : mark ≡ linkedAt file) (index : List ℕ) (room : indexRoom file ≤ length index) where
-  -- LAW: rows and chains are laid out, and the mark is set
-  pub marked : Rows file index → Linked file (pairCount file) index → Chained file (set index mark 1)
+module _ (file : List ℕ) (ok : SoundFile file) (mark tags : ℕ) (mark-is : mark ≡ linkedAt file) (tags-are : tags ≡ tagsAt file) (laid index : List ℕ)
+    (long : length index ≡ length laid) (room : indexRoom file ≤ length index) (cleared : Cleared tags (tags + keptRows) laid index) where
+  -- what stands before the tags and is not the mark
+  before-tags : (i : ℕ) → i < tagsAt file → (i ≡ mark → ⊥) → getD (set index mark 1) i 0 ≡ getD laid i 0
+  before-tags i l n = getD-set-other index mark i 1 0 n ∙ cleared .same i (omega arith)
+
+  -- the tags
+  no-tag : (slot : ℕ) → slot < keptRows → getD (set index mark 1) (tagsAt file + slot) 0 ≡ 0
+  no-tag slot l = getD-set-other index mark (tagsAt file + slot) 1 0 (λ e. omega arith) ∙ cleared .zero (tagsAt file + slot) (omega arith) (omega arith)
+
+  -- LAW: rows and chains are laid out, the tags are cleared, so that they tell no symbol, and the mark is set
+  pub marked : Rows file laid → Linked file (pairCount file) laid → Chained file (set index mark 1)
   marked rows linked = (
     record {
       room = rw (length-set index mark 1) room;
-      rows = rows-kept file ok index (set index mark 1) (length-set index mark 1) (λ i m. getD-set-other index mark i 1 0 (λ e. omega arith)) rows;
-      linked = λ _. linked-kept file ok index (set index mark 1) (pairCount file) (λ i m. getD-set-other index mark i 1 0 (λ e. omega arith)) linked;
+      rows = rows-kept file ok laid (set index mark 1) (length-set index mark 1 ∙ long) (λ i m. before-tags i (omega arith) (λ e. omega arith)) rows;
+      linked = λ _. linked-kept file ok laid (set index mark 1) (λ i m l. before-tags i l (λ e. omega arith)) linked;
+      kept = λ _ _ slot a l tag. absurd (omega (arith, no-tag slot l));
     },
     ap (λ (i : ℕ). getD (set index mark 1) i 0) (inv mark-is) ∙ getD-set-same index mark 1 0 (omega arith),
   )
@@ -170,4 +182,6 @@ index-laid i laid long =
             heads = λ h l. laid .rest _ (omega arith) ∙ old .heads h l;
             links = λ k l. laid .rest _ (omega arith) ∙ old .links k l;
           };
+      kept = λ mark big slot a l tag s u.
+          laid .rest _ (omega arith) ∙ i .kept (inv (laid .rest _ (omega arith)) ∙ mark) big slot a l (inv (laid .rest _ (omega arith)) ∙ tag) s u;
     }

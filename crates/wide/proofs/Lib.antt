@@ -3,3 +3,4 @@ pub mod Chains
 mod Laying
 mod Walking
 mod Sharing
+mod Keeping

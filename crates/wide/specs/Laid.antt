@@ -2,7 +2,7 @@
 use mathlib.Core.Path.{_≡_}
 use mathlib.Core.Logic.{_⊎_}
 use mathlib.Core.List.{List}
-use Prim.Native.Nat.{ℕ, _≤_, _<_}
+use Prim.Native.Nat.{ℕ, _+_, _≤_, _<_}
 use lib.ListN.{length, getD}
 use Rattle.meaning.specs.File.{pairCount, tableIn}
 use Rattle.meaning.specs.Tables.{lowerAt, higherAt}
@@ -11,6 +11,12 @@ use Rattle.meaning.specs.Tables.{lowerAt, higherAt}
 pub record Cleared (from to : ℕ) (before after : List ℕ) : Type 0 where
   pub zero : (i : ℕ) → from ≤ i → i < to → getD after i 0 ≡ 0
   pub same : (i : ℕ) → i < from → getD after i 0 ≡ getD before i 0
+
+-- The first n numbers of a row stand from index `from` on, and all else is as it was.
+pub record Copied (from n : ℕ) (row before after : List ℕ) : Type 0 where
+  pub there : (s : ℕ) → s < n → getD after (from + s) 0 ≡ getD row s 0
+  pub same-before : (i : ℕ) → i < from → getD after i 0 ≡ getD before i 0
+  pub same-behind : (i : ℕ) → from + n ≤ i → getD after i 0 ≡ getD before i 0
 
 -- pair k stands in a's row
 abbrev pub InRow : List ℕ → ℕ → ℕ → Type 0

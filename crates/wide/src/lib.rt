@@ -1,6 +1,7 @@
 // The lowest and the highest degree at a position of a variable where many symbols are shared. The degrees of each faced symbol with all symbols
 // are laid out in one row of numbers, by its own pairs alone, and the least of these rows is gone over once: so no pair is sought.
 mod clear;
+mod kept;
 pub mod links;
 mod row;
 
@@ -12,10 +13,10 @@ ghost use lib.ListN.{length, getD};
 ghost use Rattle.meaning.specs.File.{tableIn};
 ghost use Rattle.meaning.specs.Refusals.{SoundFile};
 ghost use Rattle.table.specs.Read.{Counted};
-ghost use Rattle.wide.specs.Index.{Index, Chained};
+ghost use Rattle.wide.specs.Index.{smallTable, Index, Chained};
 ghost use Rattle.wide.specs.Shared.{sharedBy, lowestFrom, highestFrom};
+use crate::kept::kept_row;
 use crate::links::link_pairs;
-use crate::row::lay_degrees;
 use degrees::greater;
 use degrees::lesser;
 use sets::SymbolSet;
@@ -28,6 +29,12 @@ const WHOLE: u16 = 1000;
 
 // A table has no more symbols than a set has room for.
 const ROOM: usize = SymbolSet::ROOM as usize;
+
+// The degrees of so many symbols are kept at most.
+pub const KEPT_ROWS: u16 = 32;
+
+// A table of no more symbols keeps none, so that its index need not be larger: its degrees are found without these rows.
+pub const SMALL_TABLE: u16 = 64;
 
 pub struct Degrees {
     pub lowest: u16,
@@ -45,17 +52,24 @@ fn lower_to(least: &mut [u16], row: &[u16], symbols: usize)
 }
 
 // Lowers each symbol's number, the highest at first, to what it shares with the faced symbols.
-fn lower_to_shared(file: &[u8], counts: Counts, index: &[u16], faced: SymbolSet, least: &mut [u16])
-    requires { ⌜ Counted (now file) counts × Chained (now file) (now index) × (tableIn (now file) .size ≤ length (now least)) ⌝ }
+fn lower_to_shared(
+    file: &[u8],
+    counts: Counts,
+    index: &mut [u16],
+    faced: SymbolSet,
+    least: &mut [u16],
+)
+    requires { ⌜ Counted (now file) counts × Chained (now file) (now index) × (smallTable < tableIn (now file) .size) × (tableIn (now file) .size ≤ length (now least)) ⌝ }
     requires { ⌜ ((s : ℕ) → s < tableIn (now file) .size → getD (now least) s 0 ≡ 1000) ⌝ }
+    ensures { λ _. ⌜ Chained (now (file .entry)) (now (index .exit)) ⌝ }
     ensures { λ _. ⌜ ((s : ℕ) → s < tableIn (now (file .entry)) .size → getD (now (least .exit)) s 0 ≡ sharedBy (tableIn (now (file .entry))) (faced .words) s) ⌝ }
 {
     let symbols = counts.symbols;
-    let mut row = [0u16; ROOM];
     let mut a = next_member(&faced.words, 0, symbols);
     while a < symbols {
-        lay_degrees(file, counts, index, a, &mut row);
-        lower_to(least, &row, symbols as usize);
+        let from = kept_row(file, counts, index, a);
+        let end = from + symbols as usize;
+        lower_to(least, &index[from..end], symbols as usize);
         a = next_member(&faced.words, a + 1, symbols);
     }
 }
@@ -83,7 +97,7 @@ fn rate(least: &[u16], symbols: usize, floor: u16) -> Degrees
 
 // The lowest and the highest degree that a symbol shares with the faced ones, of those that share at least `floor`.
 pub fn wide_degrees(file: &[u8], index: &mut [u16], faced: SymbolSet, floor: u16) -> Degrees
-    requires { ⌜ SoundFile (now file) × Index (now file) (now index) ⌝ }
+    requires { ⌜ SoundFile (now file) × Index (now file) (now index) × (smallTable < tableIn (now file) .size) ⌝ }
     ensures { λ r. ⌜ Index (now (file .entry)) (now (index .exit)) ⌝ }
     ensures { λ r. ⌜ r .lowest ≡ lowestFrom floor (tableIn (now (file .entry)) .size) (sharedBy (tableIn (now (file .entry))) (faced .words)) ⌝ }
     ensures { λ r. ⌜ r .highest ≡ highestFrom floor (tableIn (now (file .entry)) .size) (sharedBy (tableIn (now (file .entry))) (faced .words)) ⌝ }

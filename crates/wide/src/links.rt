@@ -1,11 +1,12 @@
 // The index of a table's pairs: the rows of its symbols, and a chain of the pairs of each higher symbol.
-ghost use Prim.Native.Nat.{_≤_};
+ghost use Prim.Native.Nat.{_≤_, _<_};
 ghost use lib.ListN.{length};
-ghost use Rattle.meaning.specs.File.{pairCount};
+ghost use Rattle.meaning.specs.File.{pairCount, tableIn};
 ghost use Rattle.meaning.specs.Refusals.{SoundFile};
 ghost use Rattle.table.specs.Read.{Counted};
 ghost use Rattle.degrees.specs.Rows.{Rows};
-ghost use Rattle.wide.specs.Index.{indexRoom, Linked, Index, Chained};
+ghost use Rattle.wide.specs.Index.{smallTable, indexRoom, Linked, Index, Chained};
+use crate::KEPT_ROWS;
 use crate::clear::clear;
 use degrees::rows::lay_rows;
 use table::number::number_at;
@@ -41,16 +42,19 @@ fn lay_links(file: &[u8], counts: Counts, index: &mut [u16])
     }
 }
 
-// Lays out rows and chains, if that was not done before.
+// Lays out rows and chains, if that was not done before. No degrees are kept yet.
 pub fn link_pairs(file: &[u8], counts: Counts, index: &mut [u16])
-    requires { ⌜ Counted (now file) counts × Index (now file) (now index) ⌝ }
+    requires { ⌜ Counted (now file) counts × Index (now file) (now index) × (smallTable < tableIn (now file) .size) ⌝ }
     ensures { λ _. ⌜ Chained (now (file .entry)) (now (index .exit)) ⌝ }
 {
-    let mark = 2 * counts.symbols as usize;
+    let symbols = counts.symbols as usize;
+    let mark = 2 * symbols;
     if index[mark] == LINKED {
         return;
     }
     lay_rows(file, counts, index);
     lay_links(file, counts, index);
+    let tags = 3 * symbols + 1 + counts.pairs as usize;
+    clear(index, tags, tags + KEPT_ROWS as usize);
     index[mark] = LINKED;
 }

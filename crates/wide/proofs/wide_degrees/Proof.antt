@@ -22,7 +22,7 @@ lower-to-shared-requires : tie.Need-lower-to-shared-requires
 lower-to-shared-requires c κs =
     let s = c .before .before .before .before .before .before .before .before .before in
     let counted = c .before .before .before .before .before .before .counts-of .ensures in
-    ((counted, c .before .before .before .before .link-pairs .ensures, omega (arith, counted .few, counted .symbols-are)), λ t l. getD-replicate setRoom t 1000 0 (omega (arith, counted .few, counted .symbols-are)))
+    ((counted, c .before .before .before .before .link-pairs .ensures, s .pre .2, omega (arith, counted .few, counted .symbols-are)), λ t l. getD-replicate setRoom t 1000 0 (omega (arith, counted .few, counted .symbols-are)))
 
 slice-aggregate-rate : tie.Need-slice-aggregate-rate
 slice-aggregate-rate c = search needs
@@ -38,12 +38,12 @@ same-length c = search needs
 
 returns : tie.Need-returns
 returns c =
-    let s = c .before .before .before .before .before .before .before .before .before .before .before .before .before .before in
+    let s = c .before .before .before .before .before .before .before .before .before .before .before .before .before .before .before .before in
     let file = now (s .args .file) in
-    let counted = c .before .before .before .before .before .before .before .before .before .before .before .counts-of .ensures in
-    let shared = sharedBy (tableIn file) (s .args .faced .words) in
-    let rated = c .rate .ensures shared (λ t l. c .before .before .before .before .lower-to-shared .ensures t (omega (arith, counted .symbols-are))) in
-    (c .before .before .before .before .before .before .before .before .before .link-pairs .ensures .0, rw (counted .symbols-are) at rated)
+    let counted = c .before .before .before .before .before .before .before .before .before .before .before .before .before .counts-of .ensures in
+    let lowered = c .before .before .before .before .before .before .lower-to-shared .ensures in
+    let rated = c .rate .ensures (sharedBy (tableIn file) (s .args .faced .words)) (λ t l. lowered .1 t (omega (arith, counted .symbols-are))) in
+    (lowered .0 .0, rw (counted .symbols-are) at rated)
 
 pub wide-degrees-spec : {M : Type 1} → statement M
 wide-degrees-spec =

@@ -21,7 +21,7 @@ search-in-requires c κs =
     let a = s .args in
     let p = s .pre in
     let ok = fit (now (a .table)) (now (a .pattern)) (now (a .heading)) (a .cut) (now (a .spans)) (now (a .sets)) (p) .sound in
-    (p, (none-gathered _ 4608 (omega (arith, sound (now (a .table)) ok .small)), index-room (now (a .table)) 512 8192 9729 (sound (now (a .table)) ok .small) (recognised (now (a .table)) .0 ok .few-pairs) (omega arith)))
+    (p, (none-gathered _ 4608 (omega (arith, sound (now (a .table)) ok .small)), index-room (now (a .table)) 512 8192 26145 (sound (now (a .table)) ok .small) (recognised (now (a .table)) .0 ok .few-pairs) (omega arith)))
 
 same-length : tie.Need-same-length
 same-length c = search needs

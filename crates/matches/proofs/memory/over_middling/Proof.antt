@@ -20,7 +20,7 @@ search-in-requires c κs =
     let a = s .args in
     let p = s .pre in
     let ok = fit (now (a .table)) (now (a .pattern)) (now (a .heading)) (a .cut) (now (a .spans)) (now (a .sets)) (p .1) .sound in
-    (p .1, (none-gathered _ 2304 (omega (arith, p .0)), index-room (now (a .table)) 256 8192 8961 (p .0) (recognised (now (a .table)) .0 ok .few-pairs) (omega arith)))
+    (p .1, (none-gathered _ 2304 (omega (arith, p .0)), index-room (now (a .table)) 256 8192 17185 (p .0) (recognised (now (a .table)) .0 ok .few-pairs) (omega arith)))
 
 same-length : tie.Need-same-length
 same-length c = search needs
