@@ -6,7 +6,7 @@ ghost use Rattle.meaning.specs.File.{tableIn};
 ghost use Rattle.meaning.specs.Refusals.{SoundFile};
 ghost use Rattle.table.specs.Read.{Counted};
 ghost use Rattle.degrees.specs.Rows.{Rows};
-ghost use Rattle.wide.specs.Index.{Index};
+ghost use Rattle.wide.specs.Index.{smallTable, Index};
 ghost use Rattle.wide.specs.Shared.{sharedBy};
 ghost use Rattle.positions.specs.Looked.{Alone, RatedBy, RatedAt, DegreesAt};
 use crate::faced::Faced;
@@ -20,13 +20,11 @@ use table::read::Counts;
 use table::read::counts_of;
 use table::read::symbol_count;
 use wide::Degrees;
+use wide::SMALL_TABLE;
 use wide::wide_degrees;
 
 // A set is large where one of its words has more symbols than this.
 const FEW_IN_A_WORD: u32 = 8;
-
-// In a table of up to so many symbols it does not pay to lay degrees out side by side.
-const SMALL_TABLE: u16 = 64;
 
 // What a symbol shares with those that stand there: the least of its degrees with them.
 fn shared_degree(table: &[u8], counts: Counts, index: &[u16], faced: SymbolSet, symbol: u16) -> u16
@@ -45,7 +43,7 @@ fn shared_degree(table: &[u8], counts: Counts, index: &[u16], faced: SymbolSet, 
 
 // Whether degrees are to be laid out side by side. Either way of finding them gives the same ones, so this decides speed alone.
 fn is_large(symbols: u16, words: &[u64; SymbolSet::WORDS]) -> bool
-    ensures { λ r. ⌜ (r ≡ true → 64 < symbols) ⌝ }
+    ensures { λ r. ⌜ (r ≡ true → smallTable < symbols) ⌝ }
 {
     if symbols <= SMALL_TABLE {
         return false;
@@ -107,7 +105,7 @@ fn many_degrees(
     floor: u16,
     before: Degrees,
 ) -> Degrees
-    requires { ⌜ SoundFile (now table) × Index (now table) (now index) ⌝ }
+    requires { ⌜ SoundFile (now table) × Index (now table) (now index) × (smallTable < tableIn (now table) .size) ⌝ }
     ensures { λ r. ⌜ Index (now (table .entry)) (now (index .exit)) ⌝ }
     ensures { λ r. ⌜ RatedBy (tableIn (now (table .entry))) (faced .words) floor before r ⌝ }
 {

@@ -20,9 +20,6 @@ use sets::SymbolSet;
 use table::read::counts_of;
 use wide::Degrees;
 
-// In a table of up to so many symbols it does not pay to count the symbols of a set, nor to lay degrees out side by side.
-const SMALL_TABLE: u16 = 64;
-
 pub struct Found {
     // some term may stand for the variable
     pub formed: bool,
@@ -64,7 +61,6 @@ fn pack_shared(
     ensures { λ r. ⌜ VariablePacked (tableIn (now (table .entry))) (now (near .entry)) (now (heading .entry)) (now (notes .entry)) (now (sets .entry)) (now (sets .exit)) r ⌝ }
 {
     let counts = counts_of(table);
-    let many = counts.symbols > SMALL_TABLE;
     // the first subterm has as many nodes as the variable has positions
     let positions = note_at(notes, 0).size as usize;
     lay_where_worth(table, counts, index, heading.len());
@@ -81,7 +77,7 @@ fn pack_shared(
         if set.is_empty() {
             formed = false;
         }
-        range = degrees_at(table, index, faced, shared, range, many);
+        range = degrees_at(table, index, faced, shared, range);
     }
     let lowest = range.lowest;
     let highest = range.highest;

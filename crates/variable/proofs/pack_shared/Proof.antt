@@ -4,12 +4,12 @@ use mathlib.Core.Path.{_≡_, refl, sym as inv, ap, _∙_}
 use mathlib.Core.Logic.{inl, inr}
 use mathlib.Core.List.{List}
 use mathlib.Core.Bool.{false, cond}
-use Prim.Native.Nat.{ℕ, _-_, _≤_, min}
+use Prim.Native.Nat.{ℕ, _+_, _-_, _≤_, min}
 use native.Mathlib.Omega.{arith}
 use lib.ListN.{length}
 use Rattle.theory.specs.Tree.{Term}
 use Rattle.theory.specs.Match.{positions as positionsOf}
-use Rattle.theory.specs.Stands.{Gathered}
+use Rattle.theory.specs.Stands.{startOf, Gathered}
 use Rattle.meaning.specs.Limits.{setWords}
 use Rattle.meaning.specs.File.{tableIn}
 use Rattle.meaning.proofs.Sound.{sound}
@@ -25,7 +25,7 @@ use Rattle.variable.proofs.pack_shared.Statement.{statement}
 use Rattle.variable.proofs.pack_shared.Tie as tie
 
 abbrev Inv-loop : tie.InvT-loop
-Inv-loop table near index₀ heading notes sets₀ counts many positions formed₀ range₀ k₀ index sets formed range k =
+Inv-loop table near index₀ heading notes sets₀ counts positions formed₀ range₀ k₀ index sets formed range k =
     (k ≤ positions)
     × (length index ≡ length index₀)
     × (length sets ≡ length sets₀)
@@ -36,15 +36,15 @@ Inv-loop table near index₀ heading notes sets₀ counts many positions formed�
     → PackedTo (tableIn table) cut ts k sets₀ sets formed (range .lowest) (range .highest))
 
 abbrev μ-loop : tie.MeasureT-loop
-μ-loop table near index₀ heading notes sets₀ counts many positions formed₀ range₀ k₀ index sets formed range k =
+μ-loop table near index₀ heading notes sets₀ counts positions formed₀ range₀ k₀ index sets formed range k =
     positions - k
 
 -- what was there at first, from where the loop stands, and what was read then
 abbrev entry : tie.At-loop Inv-loop μ-loop → tie.Start Inv-loop μ-loop
-entry c = c .before .before .before .before .before .before .before .before .before .before .before .before .before .before .before
+entry c = c .before .before .before .before .before .before .before .before .before .before .before .before .before .before
 
 abbrev read : tie.At-loop Inv-loop μ-loop → tie.After-counts-of Inv-loop μ-loop
-read c = c .before .before .before .before .before .before .before .before
+read c = c .before .before .before .before .before .before .before
 
 abbrev noted : tie.At-loop Inv-loop μ-loop → tie.After-note-at Inv-loop μ-loop
 noted c = c .before .before .before .before .before .before
@@ -59,7 +59,7 @@ counts-of-requires : tie.Need-counts-of-requires Inv-loop μ-loop
 counts-of-requires c κs = search needs
 
 note-at-requires : tie.Need-note-at-requires Inv-loop μ-loop
-note-at-requires c κs = omega (arith, c .before .before .before .before .before .before .before .before .pre .0 .2 .some)
+note-at-requires c κs = omega (arith, c .before .before .before .before .before .before .before .pre .0 .2 .some)
 
 cast-positions : tie.Need-cast-positions Inv-loop μ-loop
 cast-positions c = search needs
@@ -69,19 +69,23 @@ lay-where-worth-requires c κs = search needs
 
 loop-holds : tie.Need-loop-holds Inv-loop μ-loop
 loop-holds c =
-    let start = c .before .before .before .before .before .before .before .before .before .before .before .before .before .before in
+    let start = c .before .before .before .before .before .before .before .before .before .before .before .before .before in
     let laid = c .before .before .lay-where-worth in
     (omega arith, refl, refl, index-laid (start .pre .0 .1) (laid .ensures) (laid .kept .1 .1 .0), omega arith, omega arith, λ ts cut g known. packed-none _ _ ts _)
 
 faced-at-requires : tie.Need-faced-at-requires Inv-loop μ-loop
-faced-at-requires c κs = let own = entry (c .before) .pre .0 .2 in (own .within, λ i l. own .covers i l .3)
+faced-at-requires c κs =
+    let at = c .before in
+    let own = entry at .pre .0 .2 in
+    ((own .within, λ i l. own .covers i l .3), (own .some, omega (arith, noted at .note-at .ensures)))
 
 shared-at-requires : tie.Need-shared-at-requires Inv-loop μ-loop
 shared-at-requires c κs = λ everywhere.
     let at = c .before .before in
     let p = entry at .pre .0 in
     let counted = read at .counts-of .ensures in
-    stand-kept (p .2) (c .faced-at .ensures .whole everywhere) (counted .symbols-are) (omega (arith, counted .symbols-are, sound _ (p .0) .small))
+    let looked = c .faced-at .ensures in
+    (stand-kept (p .2) (looked .whole everywhere) (counted .symbols-are) (omega (arith, counted .symbols-are, sound _ (p .0) .small)), looked .alone everywhere)
 
 mul-put : tie.Need-mul-put Inv-loop μ-loop
 mul-put c = search needs
@@ -95,7 +99,13 @@ is-empty-requires : tie.Need-is-empty-requires Inv-loop μ-loop
 is-empty-requires c κs = search needs
 
 degrees-at-requires : tie.Need-degrees-at-requires Inv-loop μ-loop
-degrees-at-requires c κs = let at = c .before .before .before .before .before .before .before .before .before .before .before in (entry at .pre .0 .0, at .loop .inv .3, at .loop .inv .4, at .loop .inv .5)
+degrees-at-requires c κs =
+    let at = c .before .before .before .before .before .before .before .before .before .before .before in
+    let p = entry at .pre .0 in
+    let looked = c .before .before .before .before .before .before .before .before .before .faced-at .ensures in
+    let inside = p .2 .within 0 (p .2 .some) in
+    let first = p .2 .symbols (startOf (entry at .args .notes .now) 0 + at .loop .k) (omega (arith, inside, noted at .note-at .ensures)) in
+    ((p .0, at .loop .inv .3, at .loop .inv .4, at .loop .inv .5), λ everywhere. (omega (arith, looked .first-is, first), looked .alone everywhere))
 
 add-k : tie.Need-add-k Inv-loop μ-loop
 add-k c = omega (arith, few-positions (c .before .before .before .before .before .before .before .before .before .before .before .before .before .before))

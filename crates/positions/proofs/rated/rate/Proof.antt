@@ -1,5 +1,6 @@
 -- Degrees side by side, or few that tell: each gives the degrees here with those before.
 use borrow.Author.Needs.{needs}
+use native.Mathlib.Omega.{arith}
 use Rattle.positions.proofs.Rating.{at-many}
 use Rattle.positions.proofs.rated.rate.Statement.{statement}
 use Rattle.positions.proofs.rated.rate.Tie as tie
@@ -11,7 +12,10 @@ is-large-requires : tie.Need-is-large-requires
 is-large-requires c κs = search needs
 
 many-degrees-requires : tie.Need-many-degrees-requires
-many-degrees-requires c κs = search needs
+many-degrees-requires c κs =
+    let p = c .before .before .before .before .before .before .before .before .before .pre in
+    let large = c .before .before .is-large .ensures (c .before .if1 .taken) in
+    (p .0, p .1, omega (arith, large, c .before .before .before .before .before .symbol-count .ensures))
 
 same-length : tie.Need-same-length
 same-length c = search needs
