@@ -2,7 +2,7 @@
 -- notes gathered for a variable that stands in the pattern are of one subterm or more, each inside the heading.
 use mathlib.Core.Path.{_≡_, refl, sym as inv, ap, _∙_}
 use mathlib.Core.List.{List, [], _∷_, _++_, append-assoc, append-nil}
-use mathlib.Core.Bool.{Bool, cond}
+use mathlib.Core.Bool.{cond}
 use Prim.Native.Nat.{ℕ, _+_, _-_, _*_, _≤_, _<_, min}
 use native.Mathlib.Nat.{not-suc-le-zero, zero-add}
 use native.Mathlib.Omega.{arith}
@@ -36,7 +36,8 @@ use Rattle.facing.proofs.Passing.{readable, few-nodes}
 use Rattle.positions.specs.Position.{noteCount, Covers, NearOf}
 use Rattle.variable.specs.Variable.{PackedTo, OwnNotes}
 use Rattle.variable.proofs.Positions.{positions-first}
-use Rattle.packing.specs.Pack.{Packable, PackedNext}
+use Rattle.variable.specs.declared.Found.{Found}
+use Rattle.packing.specs.Pack.{Packable, VariableNoted, PackedNext}
 use Rattle.packing.specs.declared.Search.{Search}
 
 -- ---- the rest of a list, lent as a part
@@ -45,6 +46,9 @@ module _ (out : List ℕ) (at : ℕ) (inside : at ≤ length out) where
   -- LAW: what is lent
   pub rest-lent : take (length out - at) (drop at out) ≡ drop at out
   rest-lent = take-all (length out - at) (drop at out) (omega (arith, length-drop at out))
+
+  pub rest-long : length (take (length out - at) (drop at out)) ≡ length out - at
+  rest-long = ap length rest-lent ∙ length-drop at out
 
   -- LAW: once it is back, with numbers at its front, these lie over the list
   pub rest-back : (xs : List ℕ) → putMid at (length out - at) out (over (drop at out) 0 xs) ≡ over out at xs
@@ -57,22 +61,19 @@ module _ (out : List ℕ) (at : ℕ) (inside : at ≤ length out) where
 
 -- ---- the notes of one variable
 
--- LAW: once it is packed
-pub noted-next : {T : Table} {cut : ℕ} {ts : List Term} {v first : ℕ} {search after : Search} {spans spans′ sets part sets′ : List ℕ} {form : Bool} {low high : ℕ}
+-- LAW: once it is packed, and noted
+pub noted-next : {T : Table} {cut : ℕ} {ts : List Term} {v first : ℕ} {search after : Search} {found : Found} {spans spans′ sets part sets′ : List ℕ}
     → setWords * search .packed ≤ length sets
-    → PackedTo T cut ts (positions ts) (take (length sets - setWords * search .packed) (drop (setWords * search .packed) sets)) part form low high
+    → PackedTo T cut ts (positions ts) (take (length sets - setWords * search .packed) (drop (setWords * search .packed) sets)) part (found .formed) (found .lowest) (found .highest)
     → sets′ ≡ putMid (setWords * search .packed) (length sets - setWords * search .packed) sets part → positions ts ≡ first
-    → after .packed ≡ search .packed + first → after .lacking ≡ cond form (search .lacking) (min (search .lacking) v)
-    → after .lowest ≡ min (search .lowest) low → after .highest ≡ min (search .highest) high
-    → spans′ ≡ over spans (spanWidth * v) (search .packed ∷ first ∷ low ∷ high ∷ [])
-    → PackedNext T cut ts v search after spans spans′ sets sets′
-noted-next {T} {cut} {ts} {v} {search = search} {spans = spans} {sets = sets} room p laid is many lacks lows highs span =
+    → VariableNoted v first search found after spans spans′ → PackedNext T cut ts v search after spans spans′ sets sets′
+noted-next {T} {cut} {ts} {v} {search = search} {spans = spans} {sets = sets} room p laid is noted =
     record {
-      packed = many ∙ ap (λ n. search .packed + n) (inv is);
-      lacking = lacks ∙ ap (λ b. cond b (search .lacking) (min (search .lacking) v)) (p .forms);
-      lowest = lows ∙ ap (min (search .lowest)) (p .at-worst);
-      highest = highs ∙ ap (min (search .highest)) (p .at-best);
-      span = span ∙ numbers (inv is) (p .at-worst) (p .at-best);
+      packed = noted .packed ∙ ap (λ n. search .packed + n) (inv is);
+      lacking = noted .lacking ∙ ap (λ b. cond b (search .lacking) (min (search .lacking) v)) (p .forms);
+      lowest = noted .lowest ∙ ap (min (search .lowest)) (p .at-worst);
+      highest = noted .highest ∙ ap (min (search .highest)) (p .at-best);
+      span = noted .span ∙ numbers (inv is) (p .at-worst) (p .at-best);
       words = laid
           ∙ ap (putMid at (length sets - at) sets) (p .words ∙ ap (λ l. over l 0 packed) (rest-lent sets at room))
           ∙ rest-back sets at room packed;

@@ -10,7 +10,7 @@ use Rattle.theory.specs.Table.{Table}
 use Rattle.theory.specs.Faces.{Face}
 use Rattle.theory.specs.Match.{positions, inSet, formed, clash, lowestFor, highestFor, lowestOf, highestOf}
 use Rattle.theory.specs.Read.{reading, whole}
-use Rattle.theory.specs.Stands.{sizeOf, Gathered, Noted}
+use Rattle.theory.specs.Stands.{Noted}
 use Rattle.meaning.specs.Limits.{setWords, variableCount, spanWidth}
 use Rattle.meaning.specs.File.{tableIn}
 use Rattle.meaning.specs.Refusals.{SoundFile}
@@ -19,7 +19,7 @@ use Rattle.meaning.specs.Calls.{zeros, facesIn}
 use Rattle.meaning.specs.Search.{unformed, worst}
 use Rattle.meaning.specs.Over.{over}
 use Rattle.near.specs.Near.{nearWords, NearSets}
-use Rattle.positions.specs.Position.{noteCount, NearOf}
+use Rattle.variable.specs.declared.Found.{Found}
 use Rattle.packing.specs.declared.Search.{Search}
 
 -- What packing starts from: the lists are read whole over the table, nothing clashes, and it is noted where the subterms stand that face the
@@ -51,11 +51,14 @@ pub record Room (pattern heading notes own spans sets : List ℕ) : Type 0 where
   pub of-spans : spanWidth * variableCount ≤ length spans
   pub of-sets : setWords * length heading ≤ length sets
 
--- There is room for a variable's span, and for its sets behind what is packed.
-pub record RoomNext (heading own : List ℕ) (v packed : ℕ) (spans sets : List ℕ) : Type 0 where
-  pub of-span : spanWidth * (v + 1) ≤ length spans
-  pub fits : packed + sizeOf own 0 ≤ length heading
-  pub of-sets : setWords * length heading ≤ length sets
+-- What came of variable v, which has so many positions, is noted, in its span and beside what the variables before it brought. The primed spans are the
+-- later ones.
+pub record VariableNoted (v positions : ℕ) (before : Search) (found : Found) (after : Search) (spans spans′ : List ℕ) : Type 0 where
+  pub packed : after .packed ≡ before .packed + positions
+  pub lacking : after .lacking ≡ cond (found .formed) (before .lacking) (min (before .lacking) v)
+  pub lowest : after .lowest ≡ min (before .lowest) (found .lowest)
+  pub highest : after .highest ≡ min (before .highest) (found .highest)
+  pub span : spans′ ≡ over spans (spanWidth * v) (before .packed ∷ positions ∷ found .lowest ∷ found .highest ∷ [])
 
 -- Variable v, which the terms ts face, is packed, behind all that was packed before. The primed buffers are the later ones.
 pub record PackedNext (T : Table) (cut : ℕ) (ts : List Term) (v : ℕ) (before after : Search) (spans spans′ sets sets′ : List ℕ) : Type 0 where
@@ -65,11 +68,6 @@ pub record PackedNext (T : Table) (cut : ℕ) (ts : List Term) (v : ℕ) (before
   pub highest : after .highest ≡ min (before .highest) (highestFor T cut ts)
   pub span : spans′ ≡ over spans (spanWidth * v) (before .packed ∷ positions ts ∷ lowestFor T cut ts ∷ highestFor T cut ts ∷ [])
   pub words : sets′ ≡ over sets (setWords * before .packed) (allWords (through (positions ts) (λ k. inSet T cut ts k ∷ [])))
-
--- .. of whatever terms stand where its notes say, at whatever cut the near sets are of
-abbrev pub PackedBy : Table → List ℕ → List ℕ → List ℕ → ℕ → Search → Search → List ℕ → List ℕ → List ℕ → List ℕ → Type 0
-PackedBy T near heading own v before after spans spans′ sets sets′ =
-    (ts : List Term) (cut : ℕ) → Gathered heading own (noteCount own) ts → NearOf T cut near heading → PackedNext T cut ts v before after spans spans′ sets sets′
 
 -- All variables are packed, as the pattern has them. These are the spans later, and the sets before and later.
 pub record PackedAll (T : Table) (cut : ℕ) (fs : List Face) (r : Search) (spans sets sets′ : List ℕ) : Type 0 where

@@ -1,18 +1,16 @@
 // All variables of the pattern, packed.
 ghost use mathlib.Core.Path.{_≡_};
 ghost use mathlib.Core.List.{[], _∷_};
-ghost use Prim.Native.Nat.{_+_, _*_, _<_, _≤_};
+ghost use Prim.Native.Nat.{_+_, _*_, _≤_};
 ghost use lib.ListN.{length};
 ghost use Rattle.theory.specs.Least.{least as leastOf};
-ghost use Rattle.meaning.specs.Limits.{variableCount, spanWidth};
+ghost use Rattle.meaning.specs.Limits.{spanWidth};
 ghost use Rattle.meaning.specs.File.{tableIn};
-ghost use Rattle.meaning.specs.Refusals.{SoundFile};
 ghost use Rattle.meaning.specs.Calls.{zeros, facesIn};
 ghost use Rattle.meaning.specs.Search.{symbolWorth};
 ghost use Rattle.meaning.specs.Over.{over};
 ghost use Rattle.wide.specs.Index.{Index};
-ghost use Rattle.variable.specs.Variable.{OwnNotes};
-ghost use Rattle.packing.specs.Pack.{PackableAt, Room, RoomNext, PackedBy, PackedAt};
+ghost use Rattle.packing.specs.Pack.{PackableAt, Room, VariableNoted, PackedAt};
 use degrees::lesser;
 use facing::gather::gather;
 use facing::notes::note_at;
@@ -20,6 +18,7 @@ use sets::SymbolSet;
 use table::read::symbol_count;
 use terms::kind::Kind;
 use terms::kind::kind_of;
+use variable::Found;
 use variable::pack_variable;
 
 // How many numbers a variable's span has.
@@ -47,27 +46,12 @@ fn put_span(spans: &mut [u16], v: u16, first: u16, positions: u16, lowest: u16, 
     spans[at + 3] = highest;
 }
 
-// Packs variable v, whose notes these are, behind what is packed already, at the cut of the near sets.
-fn pack_next(
-    table: &[u8],
-    near: &[u64],
-    index: &mut [u16],
-    heading: &[u16],
-    own: &[u16],
-    v: u16,
-    search: Search,
-    spans: &mut [u16],
-    sets: &mut [u64],
-) -> Search
-    requires { ⌜ SoundFile (now table) × Index (now table) (now index) × OwnNotes (now table) (now near) (now heading) (now own) ⌝ }
-    requires { ⌜ (v < variableCount) × RoomNext (now heading) (now own) v (search .packed) (now spans) (now sets) ⌝ }
-    ensures { λ r. ⌜ Index (now (table .entry)) (now (index .exit)) ⌝ }
-    ensures { λ r. ⌜ PackedBy (tableIn (now (table .entry))) (now (near .entry)) (now (heading .entry)) (now (own .entry)) v search r (now (spans .entry)) (now (spans .exit)) (now (sets .entry)) (now (sets .exit)) ⌝ }
+// Notes what came of variable v, which has so many positions: in its span, and beside what the variables before it brought.
+fn note_variable(spans: &mut [u16], v: u16, positions: u16, search: Search, found: Found) -> Search
+    requires { ⌜ (spanWidth * (v + 1) ≤ length (now spans)) × (search .packed + positions ≤ 1024) ⌝ }
+    ensures { λ r. ⌜ VariableNoted v positions search found r (now (spans .entry)) (now (spans .exit)) ⌝ }
 {
     let first = search.packed;
-    let positions = note_at(own, 0).size;
-    let from = SymbolSet::WORDS * first;
-    let found = pack_variable(table, near, index, heading, own, &mut sets[from..]);
     put_span(
         spans,
         v,
@@ -123,17 +107,17 @@ pub fn pack(
                 // a variable that was met before has a span, with one position at least
                 if spans[SPAN * v as usize + 1] == 0 {
                     let end = 2 * gather(pattern, notes, v, own);
-                    search = pack_next(
+                    let positions = note_at(&own[..end], 0).size;
+                    let from = SymbolSet::WORDS * search.packed;
+                    let found = pack_variable(
                         table,
                         near,
                         index,
                         heading,
                         &own[..end],
-                        v,
-                        search,
-                        spans,
-                        sets,
+                        &mut sets[from..],
                     );
+                    search = note_variable(spans, v, positions, search, found);
                 }
             }
             _ => {}

@@ -6,9 +6,10 @@ use mathlib.Core.Logic.{inl, inr}
 use mathlib.Core.List.{List}
 use Prim.Native.Nat.{ℕ, _+_, _-_, _*_, _≤_}
 use native.Mathlib.Omega.{arith}
-use lib.ListN.{length, getD}
+use lib.ListN.{length, getD, take}
 use lib.Seq.{length-take-le}
-use Rattle.meaning.specs.Limits.{variableCount, spanWidth}
+use Rattle.theory.specs.Stands.{sizeOf}
+use Rattle.meaning.specs.Limits.{setWords, variableCount, spanWidth}
 use Rattle.meaning.specs.File.{tableIn}
 use Rattle.meaning.specs.Calls.{zeros, facesIn}
 use Rattle.near.specs.Near.{NearSets}
@@ -18,7 +19,9 @@ use Rattle.terms.specs.declared.kind.Kind.the-variants.{Variable}
 use Rattle.terms.proofs.Nodes.{variable-kind}
 use Rattle.wide.specs.Index.{Index}
 use Rattle.packing.specs.Pack.{Packable, NearWhere, PackableAt}
-use Rattle.packing.proofs.Notes.{near-of, gathered-own, own-notes, own-first}
+use Rattle.variable.specs.Variable.{OwnNotes}
+use Rattle.variable.proofs.Positions.{positions-first}
+use Rattle.packing.proofs.Notes.{rest-long, noted-next, near-of, gathered-own, own-notes, own-first}
 use Rattle.packing.proofs.Searching.{searched-none}
 use Rattle.packing.proofs.Meeting.{NewAt, PackedAlong, along-all, along-other, along-met, new-at, along-new}
 use Rattle.packing.proofs.pack.Statement.{statement}
@@ -143,39 +146,79 @@ enough c =
     let turn = c .before .before .before .before .before .before .before .before .before in
     omega (arith, c .gather .ensures .few, entry turn .pre .0 .1 .of-own, turn .before .loop .inv .2, c .gather .kept .1 .1 .1 .0)
 
+-- the gathered notes are enough to pack the variable, and the first of them tells how many positions it has
+notes-here : (c : tie.After-gather Inv-loop μ-loop)
+    → let a = entry (c .before .before .before .before .before .before .before .before .before) .args in
+    OwnNotes (a .table .now) (a .near .now) (a .heading .now) (take (2 * c .gather .result) (c .gather .last .1 .1 .1 .0))
+notes-here c =
+    let met = c .before .before in
+    let g = given (entry (c .before .before .before .before .before .before .before .before .before)) in
+    own-notes (g .packable) (g .gathered .room) (near-here met (g .cut) (g .gathered)) (c .gather .ensures) (is-new met .some) (enough c)
+
+-- .. and its sets fit behind what is packed
+fits-here : (c : tie.After-gather Inv-loop μ-loop)
+    → let turn = c .before .before .before .before .before .before .before .before .before in
+    turn .before .loop .search .packed + sizeOf (take (2 * c .gather .result) (c .gather .last .1 .1 .1 .0)) 0 ≤ length (entry turn .args .heading .now)
+fits-here c =
+    let met = c .before .before in
+    let g = given (entry (c .before .before .before .before .before .before .before .before .before)) in
+    let first = own-first (g .packable) (g .gathered .room) (near-here met (g .cut) (g .gathered)) (c .gather .ensures) (is-new met .some) (enough c) in
+    omega (arith, is-new met .fits, first)
+
+-- so many words as are packed stand in the sets
+room-here : (c : tie.After-gather Inv-loop μ-loop)
+    → let turn = c .before .before .before .before .before .before .before .before .before in
+    setWords * turn .before .loop .search .packed + setWords * sizeOf (take (2 * c .gather .result) (c .gather .last .1 .1 .1 .0)) 0 ≤ length (turn .before .loop .sets)
+room-here c =
+    let turn = c .before .before .before .before .before .before .before .before .before in
+    omega (arith, fits-here c, entry turn .pre .0 .1 .of-sets, turn .before .loop .inv .4)
+
 mul-end : tie.Need-mul-end Inv-loop μ-loop
 mul-end c = search needs
 
-slice-reshare-prefix-pack-next : tie.Need-slice-reshare-prefix-pack-next Inv-loop μ-loop
-slice-reshare-prefix-pack-next c = enough (c .before .before .before)
+slice-reshare-prefix-note-at : tie.Need-slice-reshare-prefix-note-at Inv-loop μ-loop
+slice-reshare-prefix-note-at c = enough (c .before .before)
 
-slice-aggregate-pack-next : tie.Need-slice-aggregate-pack-next Inv-loop μ-loop
-slice-aggregate-pack-next c = inv (length-take-le _ _ (enough (c .before .before .before .before)))
+slice-aggregate-note-at : tie.Need-slice-aggregate-note-at Inv-loop μ-loop
+slice-aggregate-note-at c = inv (length-take-le _ _ (enough (c .before .before .before)))
 
-pack-next-requires : tie.Need-pack-next-requires Inv-loop μ-loop
-pack-next-requires c κs =
-    let gathered = c .before .before .before .before .before .before in
-    let met = gathered .before .before in
-    let new = is-new met in
-    let turn = met .before .before .before .before .before .before .before in
-    let loop = turn .before .loop in
-    let start = entry turn in
-    let g = given start in
-    let k = g .packable in
-    let sets = near-here met (g .cut) (g .gathered) in
-    let notes = own-notes k (g .gathered .room) sets (gathered .gather .ensures) (new .some) (enough gathered) in
-    let first = own-first k (g .gathered .room) sets (gathered .gather .ensures) (new .some) (enough gathered) in
-    let room = start .pre .0 .1 in (
-      (k .sound, loop .inv .5, notes),
-      (
-        new .below,
-        record {
-          of-span = omega (arith, room .of-spans, loop .inv .3, new .below);
-          fits = omega (arith, new .fits, first);
-          of-sets = omega (arith, room .of-sets, loop .inv .4);
-        },
-      ),
-    )
+note-at-requires : tie.Need-note-at-requires Inv-loop μ-loop
+note-at-requires c κs = omega (arith, notes-here (c .before .before .before) .some)
+
+mul-from : tie.Need-mul-from Inv-loop μ-loop
+mul-from c = omega (arith, fits-here (c .before .before .before .before .before), notes-here (c .before .before .before .before .before) .few)
+
+slice-reshare-prefix-pack-variable : tie.Need-slice-reshare-prefix-pack-variable Inv-loop μ-loop
+slice-reshare-prefix-pack-variable c = enough (c .before .before .before .before .before .before)
+
+slice-aggregate-pack-variable : tie.Need-slice-aggregate-pack-variable Inv-loop μ-loop
+slice-aggregate-pack-variable c = inv (length-take-le _ _ (enough (c .before .before .before .before .before .before .before)))
+
+mul-pack-variable : tie.Need-mul-pack-variable Inv-loop μ-loop
+mul-pack-variable c = let gathered = c .before .before .before .before .before .before .before in omega (arith, fits-here gathered, notes-here gathered .few)
+
+sub-pack-variable : tie.Need-sub-pack-variable Inv-loop μ-loop
+sub-pack-variable c = omega (arith, room-here (c .before .before .before .before .before .before .before))
+
+part-pack-variable-start : tie.Need-part-pack-variable-start Inv-loop μ-loop
+part-pack-variable-start c = omega (arith, room-here (c .before .before .before .before .before .before .before))
+
+part-pack-variable-end : tie.Need-part-pack-variable-end Inv-loop μ-loop
+part-pack-variable-end c = omega (arith, room-here (c .before .before .before .before .before .before .before))
+
+pack-variable-requires : tie.Need-pack-variable-requires Inv-loop μ-loop
+pack-variable-requires c κs =
+    let gathered = c .before .before .before .before .before .before .before .before in
+    let turn = gathered .before .before .before .before .before .before .before .before .before in
+    let room = room-here gathered in
+    ((given (entry turn) .packable .sound, turn .before .loop .inv .5, notes-here gathered), omega (arith, room, rest-long (turn .before .loop .sets) (setWords * turn .before .loop .search .packed) (omega arith)))
+
+note-variable-requires : tie.Need-note-variable-requires Inv-loop μ-loop
+note-variable-requires c κs =
+    let gathered = c .before .before .before .before .before .before .before .before .before .before .before .before .before .before in
+    let turn = gathered .before .before .before .before .before .before .before .before .before in
+    let noted = c .before .before .before .before .before .before .before .before .before .before .note-at .ensures .1 in
+    (omega (arith, entry turn .pre .0 .1 .of-spans, turn .before .loop .inv .3, is-new (gathered .before .before) .below), omega (arith, fits-here gathered, notes-here gathered .few, noted))
 
 add-i : tie.Need-add-i Inv-loop μ-loop
 add-i c = search needs
@@ -194,18 +237,21 @@ loop-again c =
           let met : tie.Then1 Inv-loop μ-loop = record { before = record { before = told; slice-known5 = w .3 }; if1 = w .4 } in
           let gathered : tie.After-gather Inv-loop μ-loop = record { before = record { before = met; gather-arg = w .5 }; gather = w .6 } in
           let new = is-new met in
-          let kept = w .13 .kept in
-          rw (w .20, w .21, w .22, w .23, w .24) (
+          let packed = w .15 in
+          let noted = w .21 in
+          rw (w .24, w .25, w .26, w .27, w .28) (
             omega arith,
-            kept .1 .1 .0 ∙ loop .inv .1,
+            packed .kept .1 .1 .0 ∙ loop .inv .1,
             w .6 .kept .1 .1 .1 .0 ∙ loop .inv .2,
-            kept .1 .1 .1 .1 .1 .1 .1 .0 ∙ loop .inv .3,
-            kept .1 .1 .1 .1 .1 .1 .1 .1 .0 ∙ loop .inv .4,
-            w .13 .ensures .0,
+            noted .kept .0 ∙ loop .inv .3,
+            search needs,
+            packed .ensures .0,
             λ cut k near.
                 let sets = near-here met cut near in
                 let own = gathered-own k (near .room) sets (w .6 .ensures) (new .some) (enough gathered) in
-                along-new k (loop .inv .6 cut k near) (turn .loop-test .taken) new (start .pre .0 .1 .of-sets) (w .13 .ensures .1 _ cut own (near-of k (near .room) sets)),
+                let first = positions-first own (notes-here gathered .some) ∙ inv (w .10 .ensures .1) in
+                along-new k (loop .inv .6 cut k near) (turn .loop-test .taken) new (start .pre .0 .1 .of-sets)
+                (noted-next (omega (arith, room-here gathered)) (packed .ensures .1 _ own cut (near-of k (near .room) sets)) refl first (noted .ensures)),
           )
       | inr (inl w) ↦
           let told : tie.After-known-told Inv-loop μ-loop = record { before = record { before = record { before = c .before; match = w .0 }; v = w .1 }; known-told = w .2 } in
@@ -265,9 +311,18 @@ pack-spec =
     slice-read-if1
     gather-requires
     mul-end
-    slice-reshare-prefix-pack-next
-    slice-aggregate-pack-next
-    pack-next-requires
+    slice-reshare-prefix-note-at
+    slice-aggregate-note-at
+    note-at-requires
+    mul-from
+    slice-reshare-prefix-pack-variable
+    slice-aggregate-pack-variable
+    mul-pack-variable
+    sub-pack-variable
+    part-pack-variable-start
+    part-pack-variable-end
+    pack-variable-requires
+    note-variable-requires
     add-i
     loop-less
     loop-again
