@@ -32,7 +32,7 @@ pub enum Facing {
 const MOST_DEPTH: u8 = 64;
 
 // A clash before this node of the pattern is an early one, and does not pay for rows.
-const EARLY: usize = 32;
+const EARLY: usize = 8;
 
 // Notes the subterm of the heading that begins at this index, as what faces node i of the pattern; answers where it ends.
 fn note_subterm(table: &[u8], heading: &[u16], at: usize, notes: &mut [u16], i: usize) -> usize

@@ -41,6 +41,18 @@ fn shared_degree(table: &[u8], counts: Counts, index: &[u16], faced: SymbolSet, 
     least
 }
 
+// Whether a word has more symbols than that. Each turn leaves one out, which costs less than to count them all where there are few.
+fn has_many(word: u64) -> bool {
+    let mut rest = word;
+    for i in 0..FEW_IN_A_WORD {
+        if rest == 0 {
+            return false;
+        }
+        rest = rest & (rest - 1);
+    }
+    rest != 0
+}
+
 // Whether degrees are to be laid out side by side. Either way of finding them gives the same ones, so this decides speed alone.
 fn is_large(symbols: u16, words: &[u64; SymbolSet::WORDS]) -> bool
     ensures { λ r. ⌜ (r ≡ true → smallTable < symbols) ⌝ }
@@ -49,7 +61,7 @@ fn is_large(symbols: u16, words: &[u64; SymbolSet::WORDS]) -> bool
         return false;
     }
     for i in 0..SymbolSet::WORDS {
-        if u64::count_ones(words[i]) > FEW_IN_A_WORD {
+        if has_many(words[i]) {
             return true;
         }
     }

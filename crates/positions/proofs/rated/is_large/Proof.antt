@@ -19,11 +19,14 @@ returns c = λ e. absurd (false≢true e)
 loop-holds : tie.Need-loop-holds Inv-loop μ-loop
 loop-holds c = search needs
 
-mul-if2 : tie.Need-mul-if2 Inv-loop μ-loop
-mul-if2 c = search needs
+mul-has-many : tie.Need-mul-has-many Inv-loop μ-loop
+mul-has-many c = search needs
 
-element-copy-out-if2 : tie.Need-element-copy-out-if2 Inv-loop μ-loop
-element-copy-out-if2 c = search needs
+element-copy-out-has-many : tie.Need-element-copy-out-has-many Inv-loop μ-loop
+element-copy-out-has-many c = search needs
+
+has-many-requires : tie.Need-has-many-requires Inv-loop μ-loop
+has-many-requires c κs = search needs
 
 returns-2 : tie.Need-returns-2 Inv-loop μ-loop
 returns-2 c = λ e. omega arith
@@ -48,8 +51,9 @@ is-large-spec =
     μ-loop
     returns
     loop-holds
-    mul-if2
-    element-copy-out-if2
+    mul-has-many
+    element-copy-out-has-many
+    has-many-requires
     returns-2
     add-i
     loop-less
