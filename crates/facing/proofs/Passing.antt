@@ -24,7 +24,7 @@ use Rattle.meaning.proofs.Rated.{least-last, symbols-variable}
 use Rattle.terms.specs.Kinds.{kindOf}
 use Rattle.terms.specs.declared.kind.Kind.the-variants.{Neither}
 use Rattle.terms.proofs.Nodes.{neither-kind}
-use Rattle.terms.proofs.Ends.{EndsIn}
+use Rattle.terms.specs.Ends.{EndsIn}
 
 -- ---- lists that are read over a table
 
@@ -92,19 +92,19 @@ module _ {T : Table} {xs ys : List ℕ} (r : Readable T xs ys) (cut : ℕ) where
 
     module _ (l : i < length xs) (m : T .size ≤ getD xs i 0) where
       -- LAW: it faces a subterm
-      pub variable-faces : EndsIn T false ys j
+      pub variable-faces : EndsIn T true ys j
       variable-faces =
           let a = along-variable r (p .along) l m in
-          record { end = j + size (a .subterm); walked = a .ends-there false 64 (omega arith); after = omega (arith, a .some); inside = a .inside }
+          record { end = j + size (a .subterm); walked = a .ends-there true 64 (omega arith); after = omega (arith, a .some); inside = a .inside }
 
       -- LAW: with a note of the subterm, which ends there, it is passed
-      pub passing-variable : (end : ℕ) → walk T false ys 64 j ≡ ends end → 2 * i + 1 < length notes
+      pub passing-variable : (end : ℕ) → walk T true ys 64 j ≡ ends end → 2 * i + 1 < length notes
           → Passing T cut xs ys (putNote notes i j (end - j)) lowest end (i + 1)
       passing-variable end walked room =
           let a = along-variable r (p .along) l m in
           let t = a .subterm in
           let v = variableAt xs i in
-          let there = a .ends-there false 64 (omega arith) in
+          let there = a .ends-there true 64 (omega arith) in
           let q : end ≡ j + size t = cc (walked, there) in
           let n : end - j ≡ size t = omega arith in
           record {

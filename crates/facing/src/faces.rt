@@ -8,7 +8,7 @@ ghost use Rattle.theory.specs.Stands.{putNote};
 ghost use Rattle.meaning.specs.File.{tableIn};
 ghost use Rattle.meaning.specs.Refusals.{SoundFile};
 ghost use Rattle.degrees.specs.Rows.{Rows, RowsLaid};
-ghost use Rattle.terms.proofs.Ends.{EndsIn};
+ghost use Rattle.terms.specs.Ends.{EndsIn};
 ghost use Rattle.facing.specs.Faced.{FacedBy};
 use crate::notes::Note;
 use crate::notes::put_note;
@@ -18,8 +18,7 @@ use degrees::rows::lay_where_worth;
 use table::read::counts_of;
 use terms::kind::Kind;
 use terms::kind::kind_of;
-use terms::walk::Walked;
-use terms::walk::walk_from;
+use terms::walk::end_from;
 
 pub enum Facing {
     // the pattern's symbol at this node is not near enough to the one that faces it
@@ -28,29 +27,21 @@ pub enum Facing {
     Clear(u16),
 }
 
-// The most levels that a term has.
-const MOST_DEPTH: u8 = 64;
-
 // A clash before this node of the pattern is an early one, and does not pay for rows.
 const EARLY: usize = 8;
 
 // Notes the subterm of the heading that begins at this index, as what faces node i of the pattern; answers where it ends.
 fn note_subterm(table: &[u8], heading: &[u16], at: usize, notes: &mut [u16], i: usize) -> usize
-    requires { ⌜ SoundFile (now table) × EndsIn (tableIn (now table)) false (now heading) at ⌝ }
+    requires { ⌜ SoundFile (now table) × EndsIn (tableIn (now table)) true (now heading) at ⌝ }
     requires { ⌜ (length (now heading) ≤ 1024) × (2 * i + 1 < length (now notes)) ⌝ }
-    ensures { λ r. ⌜ walk (tableIn (now (table .entry))) false (now (heading .entry)) 64 at ≡ ends r ⌝ }
+    ensures { λ r. ⌜ walk (tableIn (now (table .entry))) true (now (heading .entry)) 64 at ≡ ends r ⌝ }
     ensures { λ r. ⌜ now (notes .exit) ≡ putNote (now (notes .entry)) i at (r - at) ⌝ }
 {
-    match walk_from(table, false, heading, MOST_DEPTH, at) {
-        Walked::Ends(end) => {
-            let start = at as u16;
-            let size = (end - at) as u16;
-            put_note(notes, i, Note { start, size });
-            end
-        }
-        // never so: a subterm begins there
-        Walked::Fault(_) => at,
-    }
+    let end = end_from(table, heading, at);
+    let start = at as u16;
+    let size = (end - at) as u16;
+    put_note(notes, i, Note { start, size });
+    end
 }
 
 // Goes along the pattern and the heading together, and notes where the subterm that faces each variable's node stands.

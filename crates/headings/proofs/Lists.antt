@@ -13,7 +13,7 @@ use Rattle.meaning.specs.File.{tableIn}
 use Rattle.meaning.specs.Refusals.{Refusal as Given, refusal, Row, row, first, faultOf, row6, row7, tableRows, SoundFile}
 use Rattle.meaning.specs.Calls.{refused, gives, degreeRows, headingDegree, part, partTo, subtermRows, subterm, theFirst, theSecond, neither, nearerRows, nearer}
 use Rattle.meaning.proofs.First.{first-append, append-none, all-silent}
-use Rattle.meaning.proofs.Trees.{whole7}
+use Rattle.meaning.proofs.Trees.{whole6, whole7}
 use Rattle.meaning.proofs.Compose.{first-stays}
 use Rattle.terms.specs.Degrees.{Heading, degreeOf}
 use Rattle.terms.proofs.Readings.{row6-is, row7-is}
@@ -89,9 +89,13 @@ module _ (table term : List ℕ) where
   no-subterm e i = rw (refused-some (first (subtermRows table term)) e .1)
 
   module _ (e : accepted (first (subtermRows table term)) ≡ true) where
-    pub table-sound : SoundFile table
+    -- LAW: what is accepted is a sound table, and a term over it
+    pub term-sound : SoundFile table × (reading (tableIn table) true term ≡ whole)
     unfolding subtermRows
-    table-sound = append-none (tableRows table) (row6 (tableIn table) true term ∷ []) (accepted-none (first (subtermRows table term)) e) .0
+    term-sound =
+        let list = row6 (tableIn table) true term ∷ [] in
+        let r = append-none (tableRows table) list (accepted-none (first (subtermRows table term)) e) in
+        (r .0, whole6 (tableIn table) true term (all-silent list (r .1) .0))
 
     -- LAW: the subterm at an index of the list goes to where the walk from there ends
     pub subterm-to : (i : ℕ) → i < length term → (w : Walk) → walk (tableIn table) true term 64 i ≡ w → subterm table term i ≡ partTo i w

@@ -13,8 +13,7 @@ use tables::DegreeAnswer;
 use terms::degree::heading_degree;
 use terms::reading::Reading;
 use terms::reading::read;
-use terms::walk::Walked;
-use terms::walk::walk_from;
+use terms::walk::end_from;
 
 // Which of two candidates is nearer.
 pub enum Choice {
@@ -50,10 +49,8 @@ pub fn subterm<'a>(table: &[u8], term: &'a [u16], index: usize) -> &'a [u16]
     if index >= term.len() {
         return &term[..0];
     }
-    match walk_from(table, true, term, 64, index) {
-        Walked::Ends(end) => &term[index..end],
-        Walked::Fault(_) => &term[..0],
-    }
+    let end = end_from(table, term, index);
+    &term[index..end]
 }
 
 // The candidate that is nearer to the heading, the first where both are equally near; the empty part at the first's start where

@@ -14,7 +14,7 @@ use lib.Seq.{getD-set-same, getD-set-other}
 use Rattle.theory.specs.Table.{Table}
 use Rattle.theory.specs.Read.{Walk, ends, fault, onward, several, walk}
 use Rattle.theory.proofs.Steps.{walk-deep, walk-past, several-stop, several-done}
-use Rattle.terms.specs.Walks.{following}
+use Rattle.terms.specs.Heads.{following}
 use Rattle.terms.specs.Levels.{StayOpen}
 use Rattle.terms.proofs.Steps.{walk-on, walk-stray}
 

@@ -3,6 +3,7 @@ pub mod Told
 pub mod Nodes
 pub mod Steps
 pub mod Ends
+pub mod Spans
 pub mod Levels
 pub mod Readings
 pub mod Degrees

@@ -13,7 +13,7 @@ use borrow.Author.Tests.{lt-ltb}
 use Rattle.theory.specs.Table.{Table}
 use Rattle.theory.specs.Read.{fault, several, permitted, width, walk}
 use Rattle.terms.specs.Kinds.{kindOf, mayStand, arityOf}
-use Rattle.terms.specs.Walks.{following}
+use Rattle.terms.specs.Heads.{following}
 use Rattle.terms.specs.declared.kind.Kind.{Kind}
 use Rattle.terms.proofs.Nodes.{permitted-kind, width-kind}
 

@@ -1,5 +1,6 @@
 pub mod Kinds
-pub mod Walks
+pub mod Heads
+pub mod Ends
 pub mod Levels
 pub mod Readings
 pub mod Degrees

@@ -6,8 +6,8 @@ ghost use Rattle.meaning.specs.File.{tableIn};
 ghost use Rattle.meaning.specs.Refusals.{SoundFile};
 ghost use Rattle.terms.specs.Readings.{readingIn};
 ghost use Rattle.terms.specs.Levels.{StayOpen};
-use crate::walk::Head;
-use crate::walk::head_of;
+use crate::head::Head;
+use crate::head::head_of;
 
 pub enum Reading {
     // the list is a term

@@ -11,7 +11,7 @@ use lib.ListN.{length, getD}
 use Rattle.theory.specs.Table.{Table}
 use Rattle.theory.specs.Read.{ends, fault, walk, faulty, reading}
 use Rattle.meaning.specs.File.{tableIn}
-use Rattle.terms.specs.Walks.{following, takesIn}
+use Rattle.terms.specs.Heads.{following, takesIn}
 use Rattle.terms.proofs.Levels.{ToRead, first-node, list-ends, node-strays, level-opens, too-deep, next-beside, next-around, term-ends}
 use Rattle.terms.proofs.Readings.{too-long, all-of-it, more-after, fault-in}
 use Rattle.terms.proofs.Told.{told}

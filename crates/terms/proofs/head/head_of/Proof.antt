@@ -11,8 +11,8 @@ use Rattle.terms.specs.declared.kind.Kind.{Kind}
 use Rattle.terms.specs.declared.kind.Kind.the-variants.{Symbol, Variable, Neither}
 use Rattle.terms.proofs.Nodes.{symbol-kind}
 use Rattle.terms.proofs.Steps.{following-kind}
-use Rattle.terms.proofs.walk.head_of.Statement.{statement}
-use Rattle.terms.proofs.walk.head_of.Tie as tie
+use Rattle.terms.proofs.head.head_of.Statement.{statement}
+use Rattle.terms.proofs.head.head_of.Tie as tie
 
 -- the kind that the arm names is the node's over the file's table
 named : (c : tie.After-kind-of) (k : Kind) → c .kind-of .result ≡ k
