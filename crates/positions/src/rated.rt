@@ -23,8 +23,8 @@ use wide::Degrees;
 use wide::SMALL_TABLE;
 use wide::wide_degrees;
 
-// A set is large where one of its words has more symbols than this.
-const FEW_IN_A_WORD: u32 = 8;
+// A set is large where it has more symbols than this: with so many, looking them up costs about as much as laying degrees out.
+const FEW: u16 = 16;
 
 // What a symbol shares with those that stand there: the least of its degrees with them.
 fn shared_degree(table: &[u8], counts: Counts, index: &[u16], faced: SymbolSet, symbol: u16) -> u16
@@ -41,16 +41,18 @@ fn shared_degree(table: &[u8], counts: Counts, index: &[u16], faced: SymbolSet, 
     least
 }
 
-// Whether a word has more symbols than that. Each turn leaves one out, which costs less than to count them all where there are few.
-fn has_many(word: u64) -> bool {
+// How many symbols may still be met, of so many, when those of a word are; 0 as well where the word has more. Each turn leaves one out.
+fn left_after(word: u64, most: u16) -> u16 {
     let mut rest = word;
-    for i in 0..FEW_IN_A_WORD {
-        if rest == 0 {
-            return false;
+    let mut left = most;
+    while rest != 0 {
+        if left == 0 {
+            return 0;
         }
         rest = rest & (rest - 1);
+        left -= 1;
     }
-    rest != 0
+    left
 }
 
 // Whether degrees are to be laid out side by side. Either way of finding them gives the same ones, so this decides speed alone.
@@ -60,8 +62,10 @@ fn is_large(symbols: u16, words: &[u64; SymbolSet::WORDS]) -> bool
     if symbols <= SMALL_TABLE {
         return false;
     }
+    let mut left = FEW + 1;
     for i in 0..SymbolSet::WORDS {
-        if has_many(words[i]) {
+        left = left_after(words[i], left);
+        if left == 0 {
             return true;
         }
     }

@@ -1,22 +1,35 @@
 //! The hardest questions that are known for a match: wide sets in which every member has to be looked at, at every position.
 
 use crate::calls::answer;
-use crate::wide::{Degrees, Wide};
+use crate::wide::{Degrees, Stand, Wide};
 use crate::Workload;
 
 const TIMES: usize = 3;
 
-/// As many shared constants as there can be beside enough that face variables.
-const TABLES: [Wide; 2] = [
-    Wide { symbols: 256, faced: 28, shared: 224, degrees: Degrees::Falling },
-    Wide { symbols: 512, faced: 16, shared: 492, degrees: Degrees::Falling },
+/// As many shared constants as there can be beside enough that face variables; and as many as can stand sparsely.
+const OF_256: Wide =
+    Wide { symbols: 256, faced: 28, shared: 224, degrees: Degrees::Falling, stand: Stand::SideBySide };
+const OF_512: Wide =
+    Wide { symbols: 512, faced: 16, shared: 492, degrees: Degrees::Falling, stand: Stand::SideBySide };
+const TABLES: [Wide; 6] = [
+    OF_256,
+    Wide { stand: Stand::Apart, ..OF_256 },
+    Wide { stand: Stand::Sparse, shared: 28, ..OF_256 },
+    OF_512,
+    Wide { stand: Stand::Apart, ..OF_512 },
+    Wide { stand: Stand::Sparse, shared: 62, ..OF_512 },
 ];
 
 pub fn workloads() -> Vec<Workload> {
     let of_each = |table: Wide| {
-        let about = format!("{} symbols, {} shared", table.symbols, table.shared);
+        let (stand, word) = match table.stand {
+            Stand::SideBySide => ("", ""),
+            Stand::Apart => ("-apart", ", 32 apart"),
+            Stand::Sparse => ("-sparse", ", sparse"),
+        };
+        let about = format!("{} symbols{}", table.symbols, word);
         let workload = |name: &str, title: &str, make: fn(&Wide) -> crate::questions::Question| {
-            let (name, title) = (format!("dear-{}-{}", table.symbols, name), format!("{}, {}", about, title));
+            let (name, title) = (format!("dear-{}{}-{}", table.symbols, stand, name), format!("{}, {}", about, title));
             Workload::new(&name, &title, TIMES, move || answer(make(&table)))
         };
         [

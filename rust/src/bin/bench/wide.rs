@@ -22,6 +22,18 @@ pub enum Degrees {
     Falling,
 }
 
+/// Where the constants stand in the table.
+#[derive(Clone, Copy, PartialEq)]
+pub enum Stand {
+    /// Those that can face variables side by side, and behind them those they are near to.
+    SideBySide,
+    /// Those that can face variables 32 apart, as far as they can: the proved match keeps the degrees of 32 symbols, and then they share few
+    /// places.
+    Apart,
+    /// Of those they are near to one in eight: no word of a set has more than eight, up to which the proved match looks them up one by one.
+    Sparse,
+}
+
 /// A table of wide sets.
 #[derive(Clone, Copy)]
 pub struct Wide {
@@ -31,13 +43,14 @@ pub struct Wide {
     /// How many others each of these is near to.
     pub shared: usize,
     pub degrees: Degrees,
+    pub stand: Stand,
 }
 
 impl Wide {
     /// 256 symbols, all used.
-    pub const OF_256: Wide = Wide { symbols: 256, faced: 30, shared: 224, degrees: Degrees::Drawn };
+    pub const OF_256: Wide = Wide { symbols: 256, faced: 30, shared: 224, degrees: Degrees::Drawn, stand: Stand::SideBySide };
     /// 512 symbols, of which 14 are not used.
-    pub const OF_512: Wide = Wide { symbols: 512, faced: 16, shared: 480, degrees: Degrees::Drawn };
+    pub const OF_512: Wide = Wide { symbols: 512, faced: 16, shared: 480, degrees: Degrees::Drawn, stand: Stand::SideBySide };
 
     fn table(&self) -> Table {
         let mut draw = Draw::new(224);
@@ -45,30 +58,38 @@ impl Wide {
         arities[usize::from(EIGHT)] = 8;
         arities[usize::from(SEVEN)] = 7;
         let falling = self.degrees == Degrees::Falling;
-        let first_low = ARGUMENTS.len() + self.faced;
-        let first_shared = if falling { first_low + 2 } else { first_low };
+        let faced: Vec<u16> = (0..self.faced).map(|faced| self.symbol(faced)).collect();
+        let sparse = self.stand == Stand::Sparse;
+        let mut others = (ARGUMENTS.len() as u16..self.symbols as u16).filter(|symbol| !faced.contains(symbol));
+        let low: Vec<u16> = others.by_ref().take(if falling { 2 } else { 0 }).collect();
+        let shared: Vec<u16> = others.filter(|symbol| !sparse || symbol % 8 == 7).take(self.shared).collect();
+        assert_eq!(shared.len(), self.shared);
+        let pair = |a: u16, b: u16, degree| Pair { lower: a.min(b), higher: a.max(b), degree };
         let mut pairs = Vec::new();
-        for faced in 0..self.faced {
-            let lower = self.symbol(faced);
+        for (index, &symbol) in faced.iter().enumerate() {
             if falling {
-                pairs.push(Pair { lower, higher: (first_low + faced % 2) as u16, degree: CUT });
+                pairs.push(pair(symbol, low[index % 2], CUT));
             }
-            for shared in 0..self.shared {
+            for (member, &other) in shared.iter().enumerate() {
                 let degree = if !falling {
                     CUT + draw.below(1000 - usize::from(CUT)) as u16
-                } else if shared + 1 < self.shared {
-                    998 - faced as u16
+                } else if member + 1 < self.shared {
+                    998 - index as u16
                 } else {
-                    999 - faced as u16
+                    999 - index as u16
                 };
-                pairs.push(Pair { lower, higher: (first_shared + shared) as u16, degree });
+                pairs.push(pair(symbol, other, degree));
             }
         }
+        pairs.sort_by_key(|pair| (pair.lower, pair.higher));
         Table::new(arities, pairs)
     }
 
     fn symbol(&self, faced: usize) -> u16 {
-        (ARGUMENTS.len() + faced) as u16
+        let stretches = self.symbols / 32;
+        let apart = self.stand == Stand::Apart;
+        let behind = if apart { faced / stretches + 32 * (faced % stretches) } else { faced };
+        (ARGUMENTS.len() + behind) as u16
     }
 
     /// Which constant faces a variable where it stands so many times: at one of so many leaves of what faces it there.

@@ -8,25 +8,28 @@ use Rattle.positions.proofs.rated.is_large.Statement.{statement}
 use Rattle.positions.proofs.rated.is_large.Tie as tie
 
 abbrev Inv-loop : tie.InvT-loop
-Inv-loop symbols words i₀ i = i ≤ setWords
+Inv-loop symbols words left₀ i₀ left i = i ≤ setWords
 
 abbrev μ-loop : tie.MeasureT-loop
-μ-loop symbols words i₀ i = setWords - i
+μ-loop symbols words left₀ i₀ left i = setWords - i
 
 returns : tie.Need-returns Inv-loop μ-loop
 returns c = λ e. absurd (false≢true e)
 
+add-left : tie.Need-add-left Inv-loop μ-loop
+add-left c = search needs
+
 loop-holds : tie.Need-loop-holds Inv-loop μ-loop
 loop-holds c = search needs
 
-mul-has-many : tie.Need-mul-has-many Inv-loop μ-loop
-mul-has-many c = search needs
+mul-left-after : tie.Need-mul-left-after Inv-loop μ-loop
+mul-left-after c = search needs
 
-element-copy-out-has-many : tie.Need-element-copy-out-has-many Inv-loop μ-loop
-element-copy-out-has-many c = search needs
+element-copy-out-left-after : tie.Need-element-copy-out-left-after Inv-loop μ-loop
+element-copy-out-left-after c = search needs
 
-has-many-requires : tie.Need-has-many-requires Inv-loop μ-loop
-has-many-requires c κs = search needs
+left-after-requires : tie.Need-left-after-requires Inv-loop μ-loop
+left-after-requires c κs = search needs
 
 returns-2 : tie.Need-returns-2 Inv-loop μ-loop
 returns-2 c = λ e. omega arith
@@ -50,10 +53,11 @@ is-large-spec =
     Inv-loop
     μ-loop
     returns
+    add-left
     loop-holds
-    mul-has-many
-    element-copy-out-has-many
-    has-many-requires
+    mul-left-after
+    element-copy-out-left-after
+    left-after-requires
     returns-2
     add-i
     loop-less
