@@ -1,16 +1,22 @@
 -- Numbers that are laid over a list stand where they were laid, and elsewhere is what was there. So it is with the words of one symbol.
-use mathlib.Core.Path.{_≡_, sym as inv, ap, _∙_}
-use mathlib.Core.List.{List, _++_, append-assoc}
-use Prim.Native.Nat.{ℕ, _+_, _-_, _*_, _/_, _%_, _≤_, _<_}
+use mathlib.Core.Path.{_≡_, refl, sym as inv, ap, _∙_}
+use mathlib.Core.List.{List, [], _∷_, _++_, append-assoc}
+use Prim.Native.Nat.{ℕ, suc, _+_, _-_, _*_, _/_, _%_, _≤_, _<_}
+use native.Mathlib.Nat.{zero-add}
 use native.Mathlib.Decide.{decLt}
 use native.Mathlib.Omega.{arith}
 use borrow.Rule.Slice.PartMut.{putMid, post-is}
-use lib.ListN.{length, getD, take, drop, length-append, List·getD-append}
-use lib.Seq.{length-take-le, getD-append-add, getD-take, getD-drop}
+use lib.ListN.{length, getD, set, length-set, take, drop, length-append, List·getD-append}
+use lib.Seq.{length-take-le, getD-append-add, getD-take, getD-drop, set-append-left}
 use Rattle.meaning.specs.Limits.{wordBits, setWords, setRoom}
 use Rattle.meaning.specs.Buffers.{bit, member}
 use Rattle.meaning.specs.Over.{over}
 use Rattle.near.specs.Near.{nearWords, inRow}
+
+-- a store behind a list
+set-behind : (xs ys : List ℕ) (i v : ℕ) → set (xs ++ ys) (length xs + i) v ≡ xs ++ set ys i v
+set-behind [] ys i v = rw zero-add refl
+set-behind (x ∷ xs) ys i v = let e : suc (length xs) + i ≡ suc (length xs + i) = omega arith in rw e (ap (λ (l : List ℕ). x ∷ l) (set-behind xs ys i v))
 
 module _ (out : List ℕ) (at : ℕ) (xs : List ℕ) (room : at + length xs ≤ length out) where
   abbrev front : List ℕ
@@ -32,6 +38,15 @@ module _ (out : List ℕ) (at : ℕ) (xs : List ℕ) (room : at + length xs ≤ 
       List·getD-append front behind 0 (at + i) (omega (arith, front-length))
       ∙ ap (λ (n : ℕ). getD front (n + i) 0) (inv taken)
       ∙ getD-append-add (take at out) xs i 0
+
+  -- LAW: a store among them is one before they are laid
+  pub laid-set : (i v : ℕ) → i < length xs → set (over out at xs) (at + i) v ≡ over out at (set xs i v)
+  unfolding over
+  laid-set i v l =
+      set-append-left front behind (at + i) v (omega (arith, front-length))
+      ∙ ap (λ (n : ℕ). set front (n + i) v ++ behind) (inv taken)
+      ∙ ap (λ (l : List ℕ). l ++ behind) (set-behind (take at out) xs i v)
+      ∙ ap (λ (n : ℕ). (take at out ++ set xs i v) ++ drop (at + n) out) (inv (length-set xs i v))
 
   -- LAW: and elsewhere is what was there
   pub not-laid : (i : ℕ) → (at ≤ i → i < at + length xs → ⊥) → getD (over out at xs) i 0 ≡ getD out i 0

@@ -1,20 +1,23 @@
 -- The words of a symbol's set are written anew, all of them, so that it does not matter what stood there; no other symbol has a word among them. So a
 -- symbol that is met again in the heading is passed over, and what was begun for it before stays.
-use mathlib.Core.Path.{_≡_, refl, sym as inv, ap, _∙_, subst}
+use mathlib.Core.Path.{_≡_, refl, sym as inv, ap, ap₂, _∙_, subst}
 use mathlib.Core.Logic.{inl, inr}
 use mathlib.Core.List.{List}
-use Prim.Native.Nat.{ℕ, _+_, _*_, _/_, _%_, _≤_, _<_}
+use Prim.Native.Nat.{ℕ, _+_, _*_, _/_, _%_, _^_, _≤_, _<_}
 use native.Mathlib.Decide.{ℕ-discrete}
 use native.Mathlib.Omega.{arith}
 use lib.Dec.{eqb}
-use lib.ListN.{length, getD, set}
+use lib.ListN.{length, getD, set, length-set, length-replicate}
 use lib.Seq.{getD-set-same, getD-set-other}
 use Rattle.meaning.specs.Limits.{wordBits, setWords, setRoom}
 use Rattle.meaning.specs.Buffers.{bit, member}
 use Rattle.meaning.specs.Over.{over}
+use Rattle.meaning.specs.Calls.{zeros}
 use Rattle.meaning.proofs.Over.{length-over}
+use Rattle.sets.specs.Words.{oneBit}
+use Rattle.sets.proofs.Laws.{member-one}
 use Rattle.near.specs.Near.{nearWords, inRow, kept, Alone, Unpaired, Opened}
-use Rattle.near.proofs.Laying.{laid, not-laid, words-hold}
+use Rattle.near.proofs.Laying.{laid, laid-set, not-laid, words-hold}
 
 -- ---- one set
 
@@ -29,8 +32,8 @@ module _ (near : List ℕ) (h : ℕ) (words : List ℕ) (room : nearWords * (h +
   inside : nearWords * h + length words ≤ length near
   inside = omega arith
 
-  -- LAW: h is alone in it
-  pub opened : ((k : ℕ) → member words k ≡ eqb k h) → Opened h near later
+  -- h is alone in it
+  opened : ((k : ℕ) → member words k ≡ eqb k h) → Opened h near later
   unfolding kept
   opened only =
       record {
@@ -48,6 +51,22 @@ module _ (near : List ℕ) (h : ℕ) (words : List ℕ) (room : nearWords * (h +
           inv
           (getD-set-other laidOver (nearWords * h + setWords) (nearWords * h + w) 2 0 (λ e. omega arith)
           ∙ laid near (nearWords * h) words inside w (omega arith))
+
+-- LAW: so it is where the words are emptied, and the bit of h is set in its word
+pub opened-anew : (near : List ℕ) (h : ℕ) → nearWords * (h + 1) ≤ length near → h < setRoom → (empty : List ℕ) (word : ℕ)
+    → empty ≡ over near (nearWords * h) (zeros setWords) → word ≡ 2 ^ (h % wordBits)
+    → Opened h near (set (set empty (nearWords * h + h / wordBits) word) (nearWords * h + setWords) 2)
+opened-anew near h room l empty word cleared one =
+    subst (λ (l : List ℕ). Opened h near (set l (nearWords * h + setWords) 2)) (inv alone)
+    (opened near h (oneBit setWords h) room (length-set (zeros setWords) (h / wordBits) (2 ^ (h % wordBits)) ∙ none) (member-one setWords h l))
+  where
+    none : length (zeros setWords) ≡ setWords
+    none = length-replicate {A = ℕ} setWords 0
+
+    alone : set empty (nearWords * h + h / wordBits) word ≡ over near (nearWords * h) (oneBit setWords h)
+    alone =
+        ap₂ (λ (l : List ℕ) (v : ℕ). set l (nearWords * h + h / wordBits) v) cleared one
+        ∙ laid-set near (nearWords * h) (zeros setWords) (omega (arith, none)) (h / wordBits) (2 ^ (h % wordBits)) (omega (arith, none))
 
 -- LAW: a set that is gathered is left as it is
 pub passed : (near : List ℕ) (h : ℕ) → (kept near h ≡ 1 → ⊥) → Opened h near near

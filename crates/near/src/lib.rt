@@ -2,9 +2,11 @@
 ghost use mathlib.Core.Path.{_≡_};
 ghost use Prim.Native.Nat.{ℕ, _+_, _-_, _*_, _<_, _≤_, max};
 ghost use lib.ListN.{length, getD};
-ghost use Rattle.meaning.specs.Limits.{setRoom};
+ghost use Rattle.meaning.specs.Limits.{setWords, setRoom};
 ghost use Rattle.meaning.specs.File.{tableIn};
 ghost use Rattle.meaning.specs.Refusals.{SoundFile};
+ghost use Rattle.meaning.specs.Over.{over};
+ghost use Rattle.meaning.specs.Calls.{zeros};
 ghost use Rattle.meaning.specs.Buffers.{member};
 ghost use Rattle.near.specs.Near.{nearWords, inRow, kept, Fresh, Kept, NearSets, Ready, Alone, Opened, OwnJoined, Joined, PairJoined};
 use sets::SymbolSet;
@@ -55,6 +57,16 @@ pub fn lowest_of(near: &[u64], h: u16) -> u16
     (FARTHEST - near[NEAR_WORDS * h as usize + SymbolSet::WORDS]) as u16
 }
 
+// Empties the set whose words begin here.
+fn clear_set(near: &mut [u64], at: usize)
+    requires { ⌜ at + setWords ≤ length (now near) ⌝ }
+    ensures { λ _. ⌜ now (near .exit) ≡ over (now (near .entry)) at (zeros setWords) ⌝ }
+{
+    for w in 0..SymbolSet::WORDS {
+        near[at + w] = 0;
+    }
+}
+
 // Begins the set of symbol h, unless that is gathered. Its words are written anew, so that whatever stood there is gone.
 fn open(near: &mut [u64], h: u16)
     requires { ⌜ (nearWords * (h + 1) ≤ length (now near)) × (h < setRoom) ⌝ }
@@ -63,7 +75,8 @@ fn open(near: &mut [u64], h: u16)
     let at = NEAR_WORDS * h as usize;
     let last = at + SymbolSet::WORDS;
     if near[last] == NOT_GATHERED {
-        SymbolSet::of(h).put(near, at);
+        clear_set(near, at);
+        near[at + (h / SymbolSet::BITS) as usize] = 1u64 << (h % SymbolSet::BITS);
         near[last] = ALONE;
     }
 }

@@ -37,16 +37,6 @@ impl SymbolSet {
         }
     }
 
-    // The set of symbol k alone.
-    pub fn of(k: u16) -> SymbolSet
-        requires { ⌜ k < setRoom ⌝ }
-        ensures { λ r. ⌜ ((j : ℕ) → member (r .words) j ≡ eqb j k) ⌝ }
-    {
-        let mut words = [0u64; SymbolSet::WORDS];
-        words[(k / SymbolSet::BITS) as usize] = 1u64 << (k % SymbolSet::BITS);
-        SymbolSet { words }
-    }
-
     // The least symbol of the set that is not below `from`, as `next_member` says.
     pub fn next(self, from: u16, end: u16) -> u16
         requires { ⌜ (from ≤ setRoom) × (end ≤ setRoom) ⌝ }

@@ -1,13 +1,15 @@
--- The words that are put are those of the set of h alone, and all of the set's words are put; the last word of h is written behind them.
+-- One shifted up inside a word loses no bit, so over the words of h lie those of the set of h alone; the last word of h is written behind them.
 use borrow.Author.Needs.{needs}
-use mathlib.Core.Path.{_≡_, sym as inv, subst}
-use mathlib.Core.List.{List}
-use Prim.Native.Nat.{ℕ, _+_, _*_}
-use lib.ListN.{length, set}
-use Rattle.meaning.specs.Limits.{setWords}
-use Rattle.meaning.specs.Over.{over}
-use Rattle.near.specs.Near.{nearWords, kept, Opened}
-use Rattle.near.proofs.Opening.{opened, passed}
+use mathlib.Core.Path.{_∙_}
+use Prim.Native.Nat.{_%_, _^_}
+use native.Mathlib.Nat.{one-mul}
+use native.Mathlib.Omega.{arith}
+use lib.Dec.{lit<}
+use lib.ListN.{length-set}
+use lib.Pow.{shl-exact}
+use Rattle.meaning.specs.Limits.{wordBits}
+use Rattle.near.specs.Near.{kept}
+use Rattle.near.proofs.Opening.{opened-anew, passed}
 use Rattle.near.proofs.open.Statement.{statement}
 use Rattle.near.proofs.open.Tie as tie
 
@@ -23,11 +25,20 @@ mul-if1 c = search needs
 slice-read-if1 : tie.Need-slice-read-if1
 slice-read-if1 c = search needs
 
-of-requires : tie.Need-of-requires
-of-requires c κs = search needs
+clear-set-requires : tie.Need-clear-set-requires
+clear-set-requires c κs = search needs
 
-put-requires : tie.Need-put-requires
-put-requires c κs = search needs
+cast-near : tie.Need-cast-near
+cast-near c = search needs
+
+shl-near : tie.Need-shl-near
+shl-near c = search needs
+
+cast-near-2 : tie.Need-cast-near-2
+cast-near-2 c = search needs
+
+add-near : tie.Need-add-near
+add-near c = search needs
 
 mul-near : tie.Need-mul-near
 mul-near c = search needs
@@ -35,20 +46,22 @@ mul-near c = search needs
 slice-write-near : tie.Need-slice-write-near
 slice-write-near c = search needs
 
+mul-near-2 : tie.Need-mul-near-2
+mul-near-2 c = search needs
+
+slice-write-near-2 : tie.Need-slice-write-near-2
+slice-write-near-2 c = rw length-set (omega (arith, c .before .before .clear-set .kept .0))
+
 same-length : tie.Need-same-length
 same-length c = search needs
 
 returns : tie.Need-returns
 returns c =
-    let put = c .before .before in
-    let of = put .before .before in
-    let s = of .before .before .before .before in
+    let cleared = c .before .before in
+    let s = cleared .before .before .before .before .before in
     let a = s .args in
-    let words = of .of .result .words in
-    let whole : length words ≡ setWords = search needs in
-    let is : put .put .last .1 .0 ≡ over (a .near .now) (nearWords * a .h) words = put .put .ensures in
-    subst (λ (l : List ℕ). Opened (a .h) (a .near .now) (set l (nearWords * a .h + setWords) 2)) (inv is)
-    (opened (a .near .now) (a .h) words (s .pre .0) whole (of .of .ensures))
+    opened-anew (a .near .now) (a .h) (s .pre .0) (s .pre .1) _ _ (cleared .clear-set .ensures)
+    (shl-exact 1 (a .h % wordBits) wordBits (lit< tt) (omega arith) ∙ one-mul (2 ^ (a .h % wordBits)))
 
 returns-2 : tie.Need-returns-2
 unfolding kept
@@ -64,10 +77,15 @@ open-spec =
     add-last
     mul-if1
     slice-read-if1
-    of-requires
-    put-requires
+    clear-set-requires
+    cast-near
+    shl-near
+    cast-near-2
+    add-near
     mul-near
     slice-write-near
+    mul-near-2
+    slice-write-near-2
     same-length
     returns
     returns-2)
