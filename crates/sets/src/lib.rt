@@ -58,19 +58,6 @@ impl SymbolSet {
         SymbolSet { words }
     }
 
-    // The symbols that are in one set or the other.
-    pub fn join(self, other: SymbolSet) -> SymbolSet
-        ensures { λ r. ⌜ ((k : ℕ) → member (r .words) k ≡ (member (self .words) k || member (other .words) k)) ⌝ }
-    {
-        let ours = self.words;
-        let theirs = other.words;
-        let mut words = [0u64; SymbolSet::WORDS];
-        for i in 0..SymbolSet::WORDS {
-            words[i] = ours[i] | theirs[i];
-        }
-        SymbolSet { words }
-    }
-
     // The set whose words a list has from index `at` on.
     pub fn read(list: &[u64], at: usize) -> SymbolSet
         requires { ⌜ at + setWords ≤ length (now list) ⌝ }
