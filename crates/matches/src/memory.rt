@@ -18,15 +18,20 @@ use sets::SymbolSet;
 use table::read::Counts;
 use table::read::counts_of;
 use wide::KEPT_ROWS;
+use wide::SMALL_TABLE;
 
 // What stands in memory before it is written. Nothing reads it; it is no 0, since zeros are laid byte by byte where other numbers are laid by
 // whole words.
 const UNWRITTEN: u16 = 1;
 
-// The symbols and the pairs of a small table, the symbols of one that is not yet large, and the pairs of any.
+// The symbols and the pairs of a small table and of a modest one, the symbols of one that is not yet large, and the pairs of any.
 const FEW_SYMBOLS: u16 = 16;
 
 const FEW_PAIRS: u16 = 128;
+
+const SOME_SYMBOLS: u16 = SMALL_TABLE;
+
+const SOME_PAIRS: u16 = 1024;
 
 const MORE_SYMBOLS: u16 = 256;
 
@@ -35,13 +40,17 @@ const ALL_PAIRS: usize = 8192;
 // Near sets for so many symbols, and for as many as a table may have.
 const FEW_NEAR: usize = FEW_SYMBOLS as usize * NEAR_WORDS;
 
+const SOME_NEAR: usize = SOME_SYMBOLS as usize * NEAR_WORDS;
+
 const MORE_NEAR: usize = MORE_SYMBOLS as usize * NEAR_WORDS;
 
 const ALL_NEAR: usize = SymbolSet::ROOM as usize * NEAR_WORDS;
 
-// The index of as many: two numbers of its row and one head of a chain for each symbol, a mark, and a link for each pair. A table that is not small has
-// the degrees of some symbols with all others besides, and a tag for each.
+// The index of as many: two numbers of its row and one head of a chain for each symbol, a mark, and a link for each pair. A table of more symbols than
+// a modest one has the degrees of some symbols with all others besides, and a tag for each.
 const FEW_INDEX: usize = 3 * FEW_SYMBOLS as usize + 1 + FEW_PAIRS as usize;
+
+const SOME_INDEX: usize = 3 * SOME_SYMBOLS as usize + 1 + SOME_PAIRS as usize;
 
 const MORE_KEPT: usize = KEPT_ROWS as usize * (MORE_SYMBOLS as usize + 1);
 
@@ -170,6 +179,33 @@ fn over_small(
     )
 }
 
+// The match over a modest table.
+fn over_modest(
+    table: &[u8],
+    pattern: &[u16],
+    heading: &[u16],
+    cut: u16,
+    spans: &mut [u16],
+    sets: &mut [u64],
+) -> Outcome
+    requires { ⌜ (tableIn (now table) .size ≤ 64) × (pairCount (now table) ≤ 1024) ⌝ }
+    requires { ⌜ Accepted (now table) (now pattern) (now heading) cut (now spans) (now sets) ⌝ }
+    ensures { λ r. ⌜ resultOf r (now (spans .exit)) (now (sets .exit)) ≡ matchCall (now (table .entry)) (now (pattern .entry)) (now (heading .entry)) cut (now (spans .entry)) (now (sets .entry)) ⌝ }
+{
+    let mut near = [NOT_GATHERED; SOME_NEAR];
+    let mut index = [UNWRITTEN; SOME_INDEX];
+    search_in(
+        table,
+        pattern,
+        heading,
+        cut,
+        &mut near,
+        &mut index,
+        spans,
+        sets,
+    )
+}
+
 // The match over a table that is not yet large.
 fn over_middling(
     table: &[u8],
@@ -223,14 +259,14 @@ fn over_any(
     )
 }
 
-// Whether a table is small.
-fn is_small(counts: Counts) -> bool
-    ensures { λ r. ⌜ (r ≡ true → (counts .symbols ≤ 16) × (counts .pairs ≤ 128)) ⌝ }
+// Whether a table has no more symbols and no more pairs than these.
+fn has_at_most(counts: Counts, symbols: u16, pairs: u16) -> bool
+    ensures { λ r. ⌜ (r ≡ true → (counts .symbols ≤ symbols) × (counts .pairs ≤ pairs)) ⌝ }
 {
-    if counts.symbols > FEW_SYMBOLS {
+    if counts.symbols > symbols {
         return false;
     }
-    counts.pairs <= FEW_PAIRS
+    counts.pairs <= pairs
 }
 
 // The match in memory of its own size.
@@ -246,8 +282,11 @@ pub fn search_sound(
     ensures { λ r. ⌜ resultOf r (now (spans .exit)) (now (sets .exit)) ≡ matchCall (now (table .entry)) (now (pattern .entry)) (now (heading .entry)) cut (now (spans .entry)) (now (sets .entry)) ⌝ }
 {
     let counts = counts_of(table);
-    if is_small(counts) {
+    if has_at_most(counts, FEW_SYMBOLS, FEW_PAIRS) {
         return over_small(table, pattern, heading, cut, spans, sets);
+    }
+    if has_at_most(counts, SOME_SYMBOLS, SOME_PAIRS) {
+        return over_modest(table, pattern, heading, cut, spans, sets);
     }
     if counts.symbols <= MORE_SYMBOLS {
         return over_middling(table, pattern, heading, cut, spans, sets);

@@ -12,14 +12,14 @@ counts-of-requires c κs =
     let a = s .args in
     fit (now (a .table)) (now (a .pattern)) (now (a .heading)) (a .cut) (now (a .spans)) (now (a .sets)) (s .pre) .sound
 
-is-small-requires : tie.Need-is-small-requires
-is-small-requires c κs = search needs
+has-at-most-requires : tie.Need-has-at-most-requires
+has-at-most-requires c κs = search needs
 
 over-small-requires : tie.Need-over-small-requires
 over-small-requires c κs =
     let met = c .before .before in
     let counted = met .before .before .counts-of .ensures in
-    let few = met .before .is-small .ensures (met .if1 .taken) in
+    let few = met .before .has-at-most .ensures (met .if1 .taken) in
     ((omega (arith, few .0, counted .symbols-are), omega (arith, few .1, counted .pairs-are)), met .before .before .before .before .before .before .before .before .pre)
 
 same-length : tie.Need-same-length
@@ -31,8 +31,15 @@ same-length-2 c = search needs
 returns : tie.Need-returns
 returns c = search needs
 
-over-middling-requires : tie.Need-over-middling-requires
-over-middling-requires c κs = search needs
+has-at-most-requires-2 : tie.Need-has-at-most-requires-2
+has-at-most-requires-2 c κs = search needs
+
+over-modest-requires : tie.Need-over-modest-requires
+over-modest-requires c κs =
+    let met = c .before .before in
+    let counted = met .before .before .before .before .counts-of .ensures in
+    let few = met .before .has-at-most2 .ensures (met .if2 .taken) in
+    ((omega (arith, few .0, counted .symbols-are), omega (arith, few .1, counted .pairs-are)), met .before .before .before .before .before .before .before .before .before .before .pre)
 
 same-length-3 : tie.Need-same-length-3
 same-length-3 c = search needs
@@ -43,8 +50,8 @@ same-length-4 c = search needs
 returns-2 : tie.Need-returns-2
 returns-2 c = search needs
 
-over-any-requires : tie.Need-over-any-requires
-over-any-requires c κs = search needs
+over-middling-requires : tie.Need-over-middling-requires
+over-middling-requires c κs = search needs
 
 same-length-5 : tie.Need-same-length-5
 same-length-5 c = search needs
@@ -55,21 +62,38 @@ same-length-6 c = search needs
 returns-3 : tie.Need-returns-3
 returns-3 c = search needs
 
+over-any-requires : tie.Need-over-any-requires
+over-any-requires c κs = search needs
+
+same-length-7 : tie.Need-same-length-7
+same-length-7 c = search needs
+
+same-length-8 : tie.Need-same-length-8
+same-length-8 c = search needs
+
+returns-4 : tie.Need-returns-4
+returns-4 c = search needs
+
 pub search-sound-spec : {M : Type 1} → statement M
 search-sound-spec =
     tie.close
     (tie.spec
     counts-of-requires
-    is-small-requires
+    has-at-most-requires
     over-small-requires
     same-length
     same-length-2
     returns
-    over-middling-requires
+    has-at-most-requires-2
+    over-modest-requires
     same-length-3
     same-length-4
     returns-2
-    over-any-requires
+    over-middling-requires
     same-length-5
     same-length-6
-    returns-3)
+    returns-3
+    over-any-requires
+    same-length-7
+    same-length-8
+    returns-4)
