@@ -39,10 +39,18 @@ impl Table {
 
     /// Table T of the examples.
     pub fn listing() -> Self {
+        Table::listing_among(8)
+    }
+
+    /// Table T among further constants, so many symbols in all; each of these is near to the next.
+    pub fn listing_among(symbols: u16) -> Self {
         let pair = |lower, higher, degree| Pair { lower, higher, degree };
         let names = [pair(1, 2, 500), pair(1, 3, 600), pair(1, 4, 700), pair(2, 3, 600), pair(2, 4, 800)];
         let dates = [pair(5, 6, 500), pair(5, 7, 700), pair(6, 7, 800)];
-        Table::new(vec![2, 1, 1, 1, 1, 0, 0, 0], [&names[..], &dates[..]].concat())
+        let further: Vec<Pair> = (9..symbols).map(|symbol| pair(symbol - 1, symbol, 600)).collect();
+        let mut arities = vec![2, 1, 1, 1, 1, 0, 0, 0];
+        arities.resize(usize::from(symbols), 0);
+        Table::new(arities, [&names[..], &dates[..], &further[..]].concat())
     }
 
     /// 256 symbols: a quarter takes two arguments, an eighth one, the others are constants. Exactly so many of the pairs that may be

@@ -36,9 +36,10 @@ fn filled(table: &Table, draw: &mut Draw, pattern: &[u16], forms: &[Vec<u16>]) -
     heading
 }
 
-pub fn listing() -> Question {
+/// The listing's question, over its table among further constants, so many symbols in all.
+pub fn listing(symbols: u16) -> Question {
     let (pattern, heading) = (vec![0, VARIABLE, VARIABLE], vec![0, 1, 5, 2, 6]);
-    Question { table: Table::listing(), pattern, heading, cut: 600, refused: None }
+    Question { table: Table::listing_among(symbols), pattern, heading, cut: 600, refused: None }
 }
 
 /// Chains of symbols of one argument, so many nodes deep, with a variable at the end that a constant faces.

@@ -66,7 +66,8 @@ fn terms() -> Vec<Workload> {
 fn matches() -> Vec<Workload> {
     let (of_256, of_512) = (Wide::OF_256, Wide::OF_512);
     vec![
-        Workload::new("match-listing", "match, the listing's", SMALL, || answer(listing())),
+        Workload::new("match-listing", "match, the listing's", SMALL, || answer(listing(8))),
+        Workload::new("match-modest", "match, the listing's, among 40 symbols", SMALL, || answer(listing(40))),
         Workload::new("match-chains", "match, chains of depth 60, table T", SMALL, || answer(chains(60))),
         Workload::new("match-32", "match, 32 nodes, 3 variables, 2,000 pairs", MIDDLING, || answer(middling())),
         Workload::new("match-1024", "match, 1,024 nodes, repeated variables, 8,192 pairs", LARGE, || {
