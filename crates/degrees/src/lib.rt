@@ -14,12 +14,14 @@ use table::read::Counts;
 use table::read::counts_of;
 use table::rules::key;
 
-// The key of the pair whose bytes start at i.
+// The key of the pair whose bytes start at i. The pair's four bytes are one number with the higher symbol above, which the compiler reads at once; turned
+// by half it has the lower symbol above, as the key has.
 fn key_from(bytes: &[u8], i: usize) -> u32
     requires { ⌜ i + 3 < length (now bytes) ⌝ }
     ensures { λ r. ⌜ r ≡ keyOf (number (now (bytes .entry)) i) (number (now (bytes .entry)) (i + 2)) ⌝ }
 {
-    key(number_at(bytes, i), number_at(bytes, i + 2))
+    let both = key(number_at(bytes, i + 2), number_at(bytes, i));
+    both << 16u32 | both >> 16u32
 }
 
 // The degree listed for two symbols, 0 if none is. Their pair is sought from pair `first` to below pair `end`: pairs stand by rising keys, so
