@@ -6,18 +6,24 @@ use crate::Workload;
 
 const TIMES: usize = 3;
 
-/// As many shared constants as there can be beside enough that face variables; and as many as can stand sparsely.
+/// As many shared constants as there can be beside enough that face variables, and as many as can stand sparsely; then 16 and 17, between which
+/// the proved match changes from looking each up to rows of degrees, and a table of 64 symbols, in which it never does.
 const OF_256: Wide =
     Wide { symbols: 256, faced: 28, shared: 224, degrees: Degrees::Falling, stand: Stand::SideBySide };
 const OF_512: Wide =
     Wide { symbols: 512, faced: 16, shared: 492, degrees: Degrees::Falling, stand: Stand::SideBySide };
-const TABLES: [Wide; 6] = [
+const TABLES: [Wide; 11] = [
     OF_256,
     Wide { stand: Stand::Apart, ..OF_256 },
     Wide { stand: Stand::Sparse, shared: 28, ..OF_256 },
     OF_512,
     Wide { stand: Stand::Apart, ..OF_512 },
     Wide { stand: Stand::Sparse, shared: 62, ..OF_512 },
+    Wide { shared: 16, ..OF_256 },
+    Wide { shared: 17, ..OF_256 },
+    Wide { shared: 16, ..OF_512 },
+    Wide { shared: 17, ..OF_512 },
+    Wide { symbols: 64, faced: 28, shared: 32, ..OF_256 },
 ];
 
 pub fn workloads() -> Vec<Workload> {
@@ -27,9 +33,9 @@ pub fn workloads() -> Vec<Workload> {
             Stand::Apart => ("-apart", ", 32 apart"),
             Stand::Sparse => ("-sparse", ", sparse"),
         };
-        let about = format!("{} symbols{}", table.symbols, word);
+        let about = format!("{} symbols, {} shared{}", table.symbols, table.shared, word);
         let workload = |name: &str, title: &str, make: fn(&Wide) -> crate::questions::Question| {
-            let (name, title) = (format!("dear-{}{}-{}", table.symbols, stand, name), format!("{}, {}", about, title));
+            let (name, title) = (format!("dear-{}-{}{}-{}", table.symbols, table.shared, stand, name), format!("{}, {}", about, title));
             Workload::new(&name, &title, TIMES, move || answer(make(&table)))
         };
         [

@@ -3,7 +3,7 @@
 use crate::build::Table;
 use crate::calls::{answer, check, degree, write, Once};
 use crate::questions::{headings, repeated};
-use crate::wide::Wide;
+use crate::wide::{Degrees, Wide};
 use crate::Workload;
 
 const TIMES: usize = 5;
@@ -28,6 +28,8 @@ pub fn workloads() -> Vec<Workload> {
     let pairs = [1024, 2048, 4096, 8192];
     let nodes = [128, 256, 512, 1024];
     let inner = |positions: usize| positions / 8;
+    // In a table of 64 symbols, with no early end, every member of a set is looked up at every position.
+    let looked_up = Wide { symbols: 64, faced: 12, degrees: Degrees::Falling, ..Wide::OF_256 };
     [
         series("size-check", "table check, # pairs", &pairs, |pairs| check(Table::of_256_symbols(pairs))),
         series("size-write", "table writer, # pairs", &pairs, |pairs| write(Table::of_256_symbols(pairs))),
@@ -46,6 +48,12 @@ pub fn workloads() -> Vec<Workload> {
         }),
         series("size-shared", "match, wide sets, x twice, # shared", &[28, 56, 112, 224], |shared| {
             answer(Wide { shared, ..Wide::OF_256 }.few_times(2, 63))
+        }),
+        series("size-few", "match, 64 symbols, x twice, # shared", &[8, 16, 32], move |shared| {
+            answer(Wide { shared, ..looked_up }.few_times(2, 63))
+        }),
+        series("size-few-eight", "match, 64 symbols, x eight times, # shared", &[8, 16, 32], move |shared| {
+            answer(Wide { shared, ..looked_up }.few_times(8, 15))
         }),
     ]
     .into_iter()

@@ -30,7 +30,7 @@ pub enum Stand {
     /// Those that can face variables 32 apart, as far as they can: the proved match keeps the degrees of 32 symbols, and then they share few
     /// places.
     Apart,
-    /// Of those they are near to one in eight: no word of a set has more than eight, up to which the proved match looks them up one by one.
+    /// As side by side, but of those they are near to one in eight, so that a set is spread over all its words.
     Sparse,
 }
 
