@@ -25,11 +25,11 @@ use wide::SMALL_TABLE;
 const UNWRITTEN: u16 = 1;
 
 // The symbols and the pairs of a small table and of a modest one, the symbols of one that is not yet large, and the pairs of any.
-const FEW_SYMBOLS: u16 = 16;
+const FEW_SYMBOLS: u16 = SMALL_TABLE;
 
 const FEW_PAIRS: u16 = 128;
 
-const SOME_SYMBOLS: u16 = SMALL_TABLE;
+const SOME_SYMBOLS: u16 = 64;
 
 const SOME_PAIRS: u16 = 1024;
 
@@ -46,11 +46,13 @@ const MORE_NEAR: usize = MORE_SYMBOLS as usize * NEAR_WORDS;
 
 const ALL_NEAR: usize = SymbolSet::ROOM as usize * NEAR_WORDS;
 
-// The index of as many: two numbers of its row and one head of a chain for each symbol, a mark, and a link for each pair. A table of more symbols than
-// a modest one has the degrees of some symbols with all others besides, and a tag for each.
+// The index of as many: two numbers of its row and one head of a chain for each symbol, a mark, and a link for each pair. A table that is not
+// small has the degrees of some symbols with all others besides, and a tag for each.
 const FEW_INDEX: usize = 3 * FEW_SYMBOLS as usize + 1 + FEW_PAIRS as usize;
 
-const SOME_INDEX: usize = 3 * SOME_SYMBOLS as usize + 1 + SOME_PAIRS as usize;
+const SOME_KEPT: usize = KEPT_ROWS as usize * (SOME_SYMBOLS as usize + 1);
+
+const SOME_INDEX: usize = 3 * SOME_SYMBOLS as usize + 1 + SOME_PAIRS as usize + SOME_KEPT;
 
 const MORE_KEPT: usize = KEPT_ROWS as usize * (MORE_SYMBOLS as usize + 1);
 

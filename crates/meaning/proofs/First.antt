@@ -1,15 +1,16 @@
 -- The law of `first`, which passes over rows until one holds: a refusal is given exactly if its row holds there and no row before it holds.
 -- So a call that answers unless a row refuses, refuses exactly by its rows.
-use mathlib.Core.Path.{_≡_, refl, sym as inv, ap}
+use mathlib.Core.Path.{_≡_, refl, sym as inv, ap, _∙_}
 use mathlib.Core.Logic.{_↔_}
 use mathlib.Core.List.{List, [], _∷_, _++_}
 use mathlib.Core.Option.{Option, none, some as just, Option·some-ne-none}
-use Prim.Native.Nat.{ℕ, zero, suc, _<_}
+use Prim.Native.Nat.{ℕ, zero, suc, _+_, _-_, _≤_, _<_}
 use native.Mathlib.Nat.{not-suc-le-zero}
+use native.Mathlib.Numerals.{add-one}
 use native.Mathlib.Omega.{arith}
 use native.Mathlib.Decide.{decLt}
-use mathlib.Core.Bool.{Bool, true, false}
-use Rattle.theory.specs.Least.{leastBelow, All}
+use mathlib.Core.Bool.{Bool, true, false, cond}
+use Rattle.theory.specs.Least.{leastBelow, lastBelow, All}
 use lib.ListN.{length, getD}
 use Rattle.meaning.specs.Refusals.{Refusal, refusal, Row, row, rowPlace, first, Given, row1-short, row1-offsets, row2, row3, row4, row5, row6, row7, row8, row8-output, row9, row10, row13, row14, tableRows}
 use Rattle.meaning.specs.Calls.{refused, gives, unless, symbolRows, degreeRows, subtermRows, inputRows, searchRows, matchRows, writerRows, backRows}
@@ -134,3 +135,36 @@ least-at b k (suc n) e q l = go (decLt k n) (least-at b k n e q)
     go (no m) rest =
         let s : n ≡ k = omega arith in
         rw (s, e, q)
+
+-- ---- the last number that passes, as a chain leads from one to the one before
+
+-- m is 1 and the last number below n that passes, or 0
+pub record Last (b : ℕ → Bool) (n m : ℕ) : Type 0 where
+  pub within : m ≤ n
+  pub is : 0 < m → b (m - 1) ≡ true
+  pub none : (j : ℕ) → m ≤ j → j < n → b j ≡ false
+
+module _ (b : ℕ → Bool) where
+  pub last-here : (n : ℕ) → b n ≡ true → lastBelow (n + 1) b ≡ n + 1
+  unfolding lastBelow
+  last-here n e = rw (add-one n, e)
+
+  pub last-before : (n : ℕ) → b n ≡ false → lastBelow (n + 1) b ≡ lastBelow n b
+  unfolding lastBelow
+  last-before n e = rw (add-one n, e)
+
+  pub last-below : (n : ℕ) → Last b n (lastBelow n b)
+  unfolding lastBelow
+  last-below zero = record { within = omega arith; is = λ l. absurd (omega arith); none = λ j l m. absurd (omega arith) }
+  last-below (suc n) = go (b n) refl (last-below n)
+    where
+      go : (passes : Bool) → b n ≡ passes → Last b n (lastBelow n b) → Last b (suc n) (cond passes (suc n) (lastBelow n b))
+      go true e before =
+          let last : suc n - 1 ≡ n = omega arith in
+          record { within = omega arith; is = λ l. ap b last ∙ e; none = λ j l m. absurd (omega arith) }
+      go false e before =
+          record { within = omega (arith, before .within); is = before .is; none = λ j l m. below j l m (decLt j n) }
+        where
+          below : (j : ℕ) → lastBelow n b ≤ j → j < suc n → Dec (j < n) → b j ≡ false
+          below j l m (yes v) = before .none j l v
+          below j l m (no v) = let q : j ≡ n = omega arith in ap b q ∙ e

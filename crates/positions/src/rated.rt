@@ -23,7 +23,8 @@ use wide::Degrees;
 use wide::SMALL_TABLE;
 use wide::wide_degrees;
 
-// A set is large where it has more symbols than this: with so many, looking them up costs about as much as laying degrees out.
+// A set is large where it has more symbols than this. With fewer, rows would pay where the same symbols stand at every position, since these are kept;
+// where others stand at each, a row is laid out for every one of them, and that costs more than looking so few up.
 const FEW: u16 = 16;
 
 // What a symbol shares with those that stand there: the least of its degrees with them.

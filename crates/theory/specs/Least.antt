@@ -46,3 +46,8 @@ orElse none o = o
 abbrev pub leastBelow : ℕ → (ℕ → Bool) → Option ℕ
 leastBelow zero b = none
 leastBelow (suc n) b = orElse (leastBelow n b) (cond (b n) (just n) none)
+
+-- 1 and the last number below n that passes the test, 0 if none does
+unfoldable pub lastBelow : ℕ → (ℕ → Bool) → ℕ
+lastBelow zero b = 0
+lastBelow (suc n) b = cond (b n) (suc n) (lastBelow n b)

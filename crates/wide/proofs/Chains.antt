@@ -2,60 +2,26 @@
 -- then; the heads of all other symbols stay.
 use mathlib.Core.Path.{_≡_, sym as inv, ap, _∙_}
 use mathlib.Core.List.{List}
-use mathlib.Core.Bool.{cond}
-use Prim.Native.Nat.{ℕ, zero, suc, _+_, _-_, _*_, _≤_, _<_}
-use native.Mathlib.Numerals.{add-one}
-use native.Mathlib.Decide.{decLt, ℕ-discrete}
+use Prim.Native.Nat.{ℕ, _+_, _*_, _≤_, _<_}
+use native.Mathlib.Decide.{ℕ-discrete}
 use native.Mathlib.Omega.{arith}
 use borrow.Author.Tests.{eq-eqb, ne-eqb}
 use borrow.Author.Count.{below-none, below-more}
 use lib.Dec.{eqb}
 use lib.ListN.{length, getD, set, length-set, length-replicate}
 use lib.Seq.{getD-set-same, getD-set-other}
+use Rattle.theory.specs.Least.{lastBelow}
 use Rattle.meaning.specs.File.{pairCount, tableIn}
 use Rattle.meaning.specs.Tables.{lowerAt, higherAt}
 use Rattle.meaning.specs.Refusals.{SoundFile}
 use Rattle.meaning.specs.Calls.{zeros}
 use Rattle.meaning.proofs.Bits.{getD-zeros}
+use Rattle.meaning.proofs.First.{last-here, last-before}
 use Rattle.degrees.specs.Rows.{Rows, RowsLaid}
 use Rattle.degrees.proofs.Listed.{pair-symbols}
 use Rattle.degrees.proofs.Narrowing.{rows-anywhere}
 use Rattle.wide.specs.Index.{lastWith, keptRows, linkedAt, headsAt, linksAt, tagsAt, indexRoom, Linked, Index, Chained}
 use Rattle.wide.specs.Laid.{Cleared}
-
--- ---- the last pair with a higher symbol
-
--- m is 1 and the last of the first n pairs whose higher symbol is h, or 0
-pub record Last (file : List ℕ) (h n m : ℕ) : Type 0 where
-  pub within : m ≤ n
-  pub is : 0 < m → higherAt file (m - 1) ≡ h
-  pub none : (j : ℕ) → m ≤ j → j < n → higherAt file j ≡ h → ⊥
-
-module _ (file : List ℕ) (h : ℕ) where
-  pub last-here : (n : ℕ) → higherAt file n ≡ h → lastWith file h (n + 1) ≡ n + 1
-  unfolding lastWith
-  last-here n e = rw (add-one n, eq-eqb (higherAt file n) h e)
-
-  pub last-before : (n : ℕ) → (higherAt file n ≡ h → ⊥) → lastWith file h (n + 1) ≡ lastWith file h n
-  unfolding lastWith
-  last-before n e = rw (add-one n, ne-eqb (higherAt file n) h e)
-
-  -- LAW
-  pub last-with : (n : ℕ) → Last file h n (lastWith file h n)
-  unfolding lastWith
-  last-with zero = record { within = omega arith; is = λ l. absurd (omega arith); none = λ j l m e. omega arith }
-  last-with (suc n) = go (ℕ-discrete (higherAt file n) h) (last-with n)
-    where
-      go : Dec (higherAt file n ≡ h) → Last file h n (lastWith file h n) → Last file h (suc n) (cond (eqb (higherAt file n) h) (suc n) (lastWith file h n))
-      go (yes e) before =
-          let last : suc n - 1 ≡ n = omega arith in
-          rw (eq-eqb (higherAt file n) h e) (record { within = omega arith; is = λ l. ap (higherAt file) last ∙ e; none = λ j l m f. omega arith })
-      go (no d) before =
-          rw (ne-eqb (higherAt file n) h d) (record { within = omega (arith, before .within); is = before .is; none = λ j l m f. other j l m f (decLt j n) })
-        where
-          other : (j : ℕ) → lastWith file h n ≤ j → j < suc n → higherAt file j ≡ h → Dec (j < n) → ⊥
-          other j l m f (yes v) = before .none j l v f
-          other j l m f (no v) = let e : n ≡ j = omega arith in d (ap (higherAt file) e ∙ f)
 
 -- ---- an index that changes
 
@@ -112,8 +78,8 @@ module _ (file : List ℕ) (ok : SoundFile file) (k head link : ℕ) (l : k < pa
           let here : headsAt file + h ≡ head = omega arith in
           ap (λ (i : ℕ). getD chained i 0) here
           ∙ getD-set-same linked-on head (k + 1) 0 (rw (length-set index link (getD index head 0)) (omega (arith, symbol)))
-          ∙ inv (last-here file h k e)
-      at-head h m (no d) = elsewhere (headsAt file + h) (λ e. omega arith) (λ e. d (omega arith)) ∙ linked .heads h m ∙ inv (last-before file h k d)
+          ∙ inv (last-here (λ j. eqb (higherAt file j) h) k (eq-eqb (higherAt file k) h e))
+      at-head h m (no d) = elsewhere (headsAt file + h) (λ e. omega arith) (λ e. d (omega arith)) ∙ linked .heads h m ∙ inv (last-before (λ j. eqb (higherAt file j) h) k (ne-eqb (higherAt file k) h d))
 
       at-link : getD chained (linksAt file + k) 0 ≡ lastWith file (higherAt file k) k
       at-link =
@@ -143,7 +109,7 @@ module _ (file : List ℕ) (ok : SoundFile file) (index : List ℕ) (room : inde
 
   -- LAW: no pair is chained where the heads are 0
   pub none-linked : ((i : ℕ) → headsAt file ≤ i → i < linksAt file → getD index i 0 ≡ 0) → Linked file 0 index
-  unfolding lastWith
+  unfolding lastBelow
   none-linked cleared = record { heads = λ h l. cleared (headsAt file + h) (omega arith) (omega arith); links = below-none _ }
 
 -- ---- the mark

@@ -6,16 +6,18 @@ use mathlib.Core.List.{List}
 use Prim.Native.Nat.{ℕ, _+_, _-_, _*_, _≤_, _<_}
 use native.Mathlib.Decide.{decLt}
 use native.Mathlib.Omega.{arith}
+use borrow.Author.Tests.{eqb-true, eqb-false}
+use lib.Dec.{eqb}
 use lib.ListN.{length, getD, set}
 use Rattle.meaning.specs.File.{number, pairCount, tableIn}
 use Rattle.meaning.specs.Tables.{pairStart, lowerAt, higherAt, degreeAt}
 use Rattle.meaning.specs.Refusals.{SoundFile}
+use Rattle.meaning.proofs.First.{Last, last-below}
 use Rattle.degrees.specs.Rows.{Rows}
 use Rattle.degrees.proofs.Listed.{pair-symbols}
 use Rattle.degrees.proofs.Narrowing.{none-before}
 use Rattle.wide.specs.Index.{lastWith}
 use Rattle.wide.specs.Laid.{InRow, RowFrom, Laid}
-use Rattle.wide.proofs.Chains.{Last, last-with}
 use Rattle.wide.proofs.Laying.{laid-none, laid-as, laid-more, laid-all}
 
 module _ (file : List ℕ) (a : ℕ) where
@@ -136,12 +138,12 @@ module _ (file : List ℕ) (ok : SoundFile file) (a : ℕ) where
   chain-head next row e laid =
       record {
         within = last .within;
-        is = last .is;
-        laid = laid-as file ok a laid (λ k l. ⊎-elim (λ own. own) (λ later. absurd (last .none k (later .1) l (later .0))));
+        is = λ l. eqb-true _ _ (last .is l);
+        laid = laid-as file ok a laid (λ k l. ⊎-elim (λ own. own) (λ later. absurd (eqb-false _ _ (last .none k (later .1) l) (later .0))));
       }
     where
-      last : Last file a (pairCount file) next
-      last = rw e (last-with file a (pairCount file))
+      last : Last (λ k. eqb (higherAt file k) a) (pairCount file) next
+      last = rw e (last-below (λ k. eqb (higherAt file k) a) (pairCount file))
 
   -- LAW: from a pair to the one before it
   pub chain-next : (next before : ℕ) (row : List ℕ) → 0 < next → before ≡ lastWith file (higherAt file (next - 1)) (next - 1) → ChainFrom file a next row
@@ -149,7 +151,7 @@ module _ (file : List ℕ) (ok : SoundFile file) (a : ℕ) where
   chain-next next before row some e at =
       record {
         within = omega (arith, last .within, at .within);
-        is = last .is;
+        is = λ l. eqb-true _ _ (last .is l);
         laid = laid-more file ok a (at .laid) k (lowerAt file k) l (pair-symbols file ok k l .0) (inr (at .is some, refl)) (λ j m n. ⊎-elim inl (λ later. inr (later .0, behind j n later (decLt j k))));
       }
     where
@@ -159,11 +161,11 @@ module _ (file : List ℕ) (ok : SoundFile file) (a : ℕ) where
       l : k < pairCount file
       l = omega (arith, at .within)
 
-      last : Last file a k before
-      last = rw (e, at .is some) (last-with file a k)
+      last : Last (λ j. eqb (higherAt file j) a) k before
+      last = rw (e, at .is some) (last-below (λ j. eqb (higherAt file j) a) k)
 
       behind : (j : ℕ) → (j ≡ k → ⊥) → (higherAt file j ≡ a) × (before ≤ j) → Dec (j < k) → next ≤ j
-      behind j n later (yes v) = absurd (last .none j (later .1) v (later .0))
+      behind j n later (yes v) = absurd (eqb-false _ _ (last .none j (later .1) v) (later .0))
       behind j n later (no v) = omega arith
 
   -- LAW: behind its last pair all is laid out

@@ -3,17 +3,17 @@
 use mathlib.Core.Path.{_≡_}
 use mathlib.Core.List.{List}
 use mathlib.Core.Bool.{cond}
-use Prim.Native.Nat.{ℕ, zero, suc, _+_, _*_, _≤_, _<_}
+use Prim.Native.Nat.{ℕ, _+_, _*_, _≤_, _<_}
 use lib.Dec.{eqb, leb}
 use lib.ListN.{length, getD}
+use Rattle.theory.specs.Least.{lastBelow}
 use Rattle.meaning.specs.File.{pairCount, tableIn}
 use Rattle.meaning.specs.Tables.{higherAt}
 use Rattle.degrees.specs.Rows.{Rows}
 
 -- 1 and the last of the first n pairs whose higher symbol is h, or 0 if there is none
-unfoldable pub lastWith : List ℕ → ℕ → ℕ → ℕ
-lastWith file h zero = 0
-lastWith file h (suc n) = cond (eqb (higherAt file n) h) (suc n) (lastWith file h n)
+abbrev pub lastWith : List ℕ → ℕ → ℕ → ℕ
+lastWith file h n = lastBelow n (λ k. eqb (higherAt file k) h)
 
 -- ---- where things stand in the index of a table: behind the rows a mark, then the heads of the chains, then the links; in that of a table that
 -- is not small then a tag for each place that keeps the degrees of a symbol, and these places
@@ -24,7 +24,7 @@ keptRows = 32
 
 -- a table of no more symbols has none
 abbrev pub smallTable : ℕ
-smallTable = 64
+smallTable = 16
 
 abbrev pub linkedAt : List ℕ → ℕ
 linkedAt file = 2 * tableIn file .size

@@ -34,7 +34,7 @@ const ROOM: usize = SymbolSet::ROOM as usize;
 pub const KEPT_ROWS: u16 = 32;
 
 // A table of no more symbols keeps none, so that its index need not be larger: its degrees are found without these rows.
-pub const SMALL_TABLE: u16 = 64;
+pub const SMALL_TABLE: u16 = 16;
 
 pub struct Degrees {
     pub lowest: u16,

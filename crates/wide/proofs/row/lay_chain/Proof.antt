@@ -5,13 +5,14 @@ use mathlib.Core.List.{List}
 use Prim.Native.Nat.{ℕ, _+_, _-_, _*_, _≤_, _<_}
 use native.Mathlib.Omega.{arith}
 use denote.Ref.{now}
+use lib.Dec.{eqb}
 use lib.ListN.{length, getD, length-set}
 use Rattle.meaning.specs.File.{number, symbolCount, pairCount}
 use Rattle.meaning.specs.Tables.{pairStart, lowerAt, higherAt, degreeAt}
+use Rattle.meaning.proofs.First.{last-below}
 use Rattle.table.proofs.Reading.{size-is, pair-inside}
 use Rattle.degrees.proofs.Listed.{pair-symbols}
 use Rattle.wide.specs.Index.{lastWith, linksAt, Linked}
-use Rattle.wide.proofs.Chains.{last-with}
 use Rattle.wide.proofs.Walking.{ChainFrom, chain-head, chain-next, chain-end}
 use Rattle.wide.proofs.row.lay_chain.Statement.{statement}
 use Rattle.wide.proofs.row.lay_chain.Tie as tie
@@ -152,7 +153,7 @@ cast-next-2 c = omega (arith, c .shared-slice-known4 .given (link (c .before .be
 loop-less : tie.Need-loop-less Inv-loop μ-loop
 loop-less c =
     let turn = c .before .before .before in
-    omega (arith, link-is turn, last-with (fileAt turn) (higherAt (fileAt turn) (k turn)) (k turn) .within)
+    omega (arith, link-is turn, last-below (λ j. eqb (higherAt (fileAt turn) j) (higherAt (fileAt turn) (k turn))) (k turn) .within)
 
 loop-again : tie.Need-loop-again Inv-loop μ-loop
 loop-again c =
