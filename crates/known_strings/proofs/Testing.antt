@@ -1,21 +1,19 @@
 -- 19 by the lent lists: the first entry that is bad. Where the strings rise none was listed before, so that only the numbers are to be tested.
-use mathlib.Core.Path.{_≡_, refl, sym as inv, ap, ap₂, _∙_}
+use mathlib.Core.Path.{_≡_, refl, ap, ap₂, _∙_}
 use mathlib.Core.List.{List}
 use mathlib.Core.Bool.{Bool, true, false, _||_}
-use Prim.Native.Nat.{ℕ, zero, suc, _+_, _*_, _-_, _%_, _≤_, _<_}
-use native.Mathlib.Decide.{decLt, ℕ-discrete}
+use Prim.Native.Nat.{ℕ, zero, suc, _+_, _-_, _<_}
+use native.Mathlib.Decide.{decLt}
 use native.Mathlib.Numerals.{add-one}
 use native.Mathlib.Omega.{arith}
 use lib.Dec.{eqb}
-use lib.ListN.{length, getD, set, drop, drop-of-length-le}
-use lib.Seq.{getD-set-same, getD-set-other}
+use lib.ListN.{length, getD}
 use Rattle.theory.specs.Least.{some, leastBelow}
 use Rattle.meaning.specs.Refusals.{row}
 use Rattle.marc.specs.Known.{same, stringOf, numberOf, entryOf, knownIn, badEntry, row19}
 use Rattle.marc.specs.Order.{before}
-use Rattle.marc.proofs.Strings.{none-of, left-is, same-true}
 use Rattle.marc.proofs.Order.{none-twice}
-use Rattle.known_strings.specs.Lent.{stringIn, RisesTo, listedAbove, badIn, digestFrom, digestOf}
+use Rattle.known_strings.specs.Lent.{stringIn, RisesTo, badIn}
 use Rattle.known_strings.proofs.Entries.{in-both, string-is, number-is}
 
 -- ---- tests that say the same of each number below n
@@ -67,36 +65,3 @@ rises-on text ends j one h q i l = go (decLt (suc i) j)
         let a : i ≡ j - 1 = omega arith in
         let b : suc i ≡ j = omega arith in
         ap₂ (λ x y. before (stringIn text ends x) (stringIn text ends y)) a b ∙ q
-
--- ---- digests
-
--- LAW: a byte more
-pub digest-on : (string : List ℕ) (k sum : ℕ) → k < length string → digestFrom sum (drop k string) ≡ digestFrom ((sum * 31 + getD string k 0) % 16384) (drop (k + 1) string)
-unfolding digestFrom
-digest-on string k sum l = ap (digestFrom sum) (left-is string k l)
-
-pub digest-ends : (string : List ℕ) (k sum : ℕ) → length string ≤ k → digestFrom sum (drop k string) ≡ sum
-unfolding digestFrom
-digest-ends string k sum l = ap (digestFrom sum) (drop-of-length-le string l)
-
--- the digest of each of the first n strings is marked
-abbrev pub MarkedTo : List ℕ → List ℕ → List ℕ → ℕ → Type 0
-MarkedTo text ends met n = (i : ℕ) → i < n → getD met (digestOf (stringIn text ends i)) 0 ≡ 1
-
-module _ (text ends met : List ℕ) (j : ℕ) (marked : MarkedTo text ends met j) where
-  -- LAW: a string whose digest is not marked was not listed before: the same bytes have the same digest
-  pub unmet : (getD met (digestOf (stringIn text ends j)) 0 ≡ 1 → ⊥) → listedAbove text ends j ≡ false
-  unmet new = none-of j (λ i. same (stringIn text ends i) (stringIn text ends j)) (λ i l. go i l (same (stringIn text ends i) (stringIn text ends j)) refl)
-    where
-      go : (i : ℕ) → i < j → (b : Bool) → same (stringIn text ends i) (stringIn text ends j) ≡ b → same (stringIn text ends i) (stringIn text ends j) ≡ false
-      go i l true e = absurd (new (ap (λ s. getD met (digestOf s) 0) (inv (same-true (stringIn text ends i) (stringIn text ends j) e)) ∙ marked i l))
-      go i l false e = e
-
-  -- LAW: its own is marked
-  pub marked-on : (mark : ℕ) → mark ≡ digestOf (stringIn text ends j) → mark < length met → MarkedTo text ends (set met mark 1) (j + 1)
-  marked-on mark is l i m = go (ℕ-discrete (digestOf (stringIn text ends i)) mark) (decLt i j)
-    where
-      go : Dec (digestOf (stringIn text ends i) ≡ mark) → Dec (i < j) → getD (set met mark 1) (digestOf (stringIn text ends i)) 0 ≡ 1
-      go (yes e) d = ap (λ k. getD (set met mark 1) k 0) e ∙ getD-set-same met mark 1 0 l
-      go (no e) (yes d) = getD-set-other met mark (digestOf (stringIn text ends i)) 1 0 e ∙ marked i d
-      go (no e) (no d) = let q : i ≡ j = omega arith in absurd (e (ap (λ i. digestOf (stringIn text ends i)) q ∙ inv is))

@@ -1,8 +1,8 @@
 -- The list as it is lent, by the text, the ends and the numbers alone.
-use mathlib.Core.List.{List, [], _∷_}
+use mathlib.Core.List.{List}
 use mathlib.Core.Bool.{Bool, _||_}
 use mathlib.Core.Option.{Option, none, some as just}
-use Prim.Native.Nat.{ℕ, zero, suc, _+_, _*_, _-_, _%_}
+use Prim.Native.Nat.{ℕ, zero, suc, _-_}
 use lib.Dec.{eqb}
 use lib.ListN.{getD, take, drop}
 use Rattle.theory.specs.Least.{some}
@@ -37,11 +37,3 @@ listedAbove text ends j = some j (λ i. same (stringIn text ends i) (stringIn te
 
 abbrev pub badIn : List ℕ → List ℕ → List ℕ → ℕ → ℕ → Bool
 badIn text ends numbers absent j = listedAbove text ends j || eqb (getD numbers j 0) absent
-
--- a string's digest, behind what is reckoned already
-unfoldable pub digestFrom : ℕ → List ℕ → ℕ
-digestFrom sum [] = sum
-digestFrom sum (b ∷ bs) = digestFrom ((sum * 31 + b) % 16384) bs
-
-abbrev pub digestOf : List ℕ → ℕ
-digestOf = digestFrom 0

@@ -20,7 +20,7 @@ use Rattle.marc.proofs.Strings.{same-true, true-same}
 use Rattle.marc.proofs.Places.{least-inside}
 
 -- some number below n passes
-some-below : (n : ℕ) (b : ℕ → Bool) → some n b ≡ true → (i : ℕ) × (i < n) × (b i ≡ true)
+pub some-below : (n : ℕ) (b : ℕ → Bool) → some n b ≡ true → (i : ℕ) × (i < n) × (b i ≡ true)
 some-below zero b e = absurd (false≢true e)
 some-below (suc n) b e = go (or-cases (b n) (some n b) e) (some-below n b)
   where

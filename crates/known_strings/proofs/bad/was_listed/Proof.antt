@@ -1,6 +1,5 @@
--- The loop keeps that no string passed is the one at j; where none with its digest was met there is none.
+-- The loop keeps that no string passed is the one at j.
 use borrow.Author.Needs.{needs}
-use borrow.Author.Tests.{not-true}
 use mathlib.Core.Path.{_≡_, refl, sym, ap, ap₂, _∙_}
 use mathlib.Core.List.{List}
 use mathlib.Core.Bool.{Bool, false}
@@ -21,23 +20,20 @@ abbrev like : List ℕ → List ℕ → ℕ → ℕ → Bool
 like text ends j i = same (stringIn text ends i) (stringIn text ends j)
 
 abbrev Inv-loop : tie.InvT-loop
-Inv-loop text ends j met string start₀ i₀ start i = (i ≤ j) × (string ≡ stringIn text ends j) × (start ≡ beginOf ends i) × (some i (like text ends j) ≡ false)
+Inv-loop text ends j string start₀ i₀ start i = (i ≤ j) × (string ≡ stringIn text ends j) × (start ≡ beginOf ends i) × (some i (like text ends j) ≡ false)
 
 abbrev μ-loop : tie.MeasureT-loop
-μ-loop text ends j met string start₀ i₀ start i = j - i
+μ-loop text ends j string start₀ i₀ start i = j - i
 
 -- what the comparison says of string i
 told : (c : tie.After-same-bytes Inv-loop μ-loop)
-    → let a = c .before .before .before .before .before .before .before .before .before .args in
+    → let a = c .before .before .before .before .before .before .before .before .args in
     like (now (a .text)) (now (a .ends)) (a .j) (c .before .before .before .before .loop .i) ≡ c .same-bytes .result
 told c =
-    let a = c .before .before .before .before .before .before .before .before .before .args in
+    let a = c .before .before .before .before .before .before .before .before .args in
     let head = c .before .before .before .before .loop in
     let is = c .before .part .ensures ∙ part-is (now (a .text)) (now (a .ends)) (head .i) (head .start) (head .inv .2) in
     ap₂ same (sym is) (sym (head .inv .1)) ∙ sym (c .same-bytes .ensures)
-
-returns : tie.Need-returns Inv-loop μ-loop
-returns c = sym (c .before .before .before .pre .1 (not-true _ (c .if1 .taken)))
 
 string-at-requires : tie.Need-string-at-requires Inv-loop μ-loop
 string-at-requires c κs = search needs
@@ -60,11 +56,11 @@ part-requires c κs = search needs
 same-bytes-requires : tie.Need-same-bytes-requires Inv-loop μ-loop
 same-bytes-requires c κs = search needs
 
-returns-2 : tie.Need-returns-2 Inv-loop μ-loop
-returns-2 c =
-    let a = c .before .before .before .before .before .before .before .before .before .before .args in
+returns : tie.Need-returns Inv-loop μ-loop
+returns c =
+    let a = c .before .before .before .before .before .before .before .before .before .args in
     let head = c .before .before .before .before .before .loop in
-    sym (some-of (a .j) (like (now (a .text)) (now (a .ends)) (a .j)) (head .i) (omega arith) (told (c .before) ∙ c .if2 .taken))
+    sym (some-of (a .j) (like (now (a .text)) (now (a .ends)) (a .j)) (head .i) (omega arith) (told (c .before) ∙ c .if1 .taken))
 
 add-i : tie.Need-add-i Inv-loop μ-loop
 add-i c = search needs
@@ -74,13 +70,13 @@ loop-less c = search needs
 
 loop-again : tie.Need-loop-again Inv-loop μ-loop
 loop-again c =
-    let a = c .before .before .before .before .before .before .before .before .before .before .args in
+    let a = c .before .before .before .before .before .before .before .before .before .args in
     let head = c .before .before .before .before .before .loop in
-    (omega arith, head .inv .1, begins-next (now (a .ends)) (head .i), some-on (like (now (a .text)) (now (a .ends)) (a .j)) (head .i) (head .inv .3) (told (c .before) ∙ c .if2 .left))
+    (omega arith, head .inv .1, begins-next (now (a .ends)) (head .i), some-on (like (now (a .text)) (now (a .ends)) (a .j)) (head .i) (head .inv .3) (told (c .before) ∙ c .if1 .left))
 
-returns-3 : tie.Need-returns-3 Inv-loop μ-loop
-returns-3 c =
-    let a = c .before .before .before .before .before .before .args in
+returns-2 : tie.Need-returns-2 Inv-loop μ-loop
+returns-2 c =
+    let a = c .before .before .before .before .before .args in
     let head = c .before .loop in
     let i : a .j ≡ head .i = omega arith in
     sym (ap (λ n. some n (like (now (a .text)) (now (a .ends)) (a .j))) i ∙ head .inv .3)
@@ -91,7 +87,6 @@ was-listed-spec =
     (tie.spec
     Inv-loop
     μ-loop
-    returns
     string-at-requires
     loop-holds
     mul-end
@@ -99,8 +94,8 @@ was-listed-spec =
     cast-end
     part-requires
     same-bytes-requires
-    returns-2
+    returns
     add-i
     loop-less
     loop-again
-    returns-3)
+    returns-2)
