@@ -18,12 +18,12 @@ use Rattle.marc.specs.Known.{same}
 use Rattle.marc.proofs.Strings.{none-of, left-is, not-same}
 use Rattle.marc.proofs.Unfit.{some-below}
 use Rattle.known_strings.specs.Lent.{stringIn, listedAbove, badIn}
-use Rattle.known_strings.specs.Chains.{digestFrom, digestOf, blockSize, hasDigest, LinkedTo, Chained, ChainFrom, FineTo, BadFrom}
+use Rattle.known_strings.specs.Chains.{digests, digestFrom, digestOf, blockSize, hasDigest, LinkedTo, Chained, ChainFrom, FineTo, BadFrom}
 
 -- ---- digests
 
 -- LAW: a byte more
-pub digest-on : (string : List ℕ) (k sum : ℕ) → k < length string → digestFrom sum (drop k string) ≡ digestFrom ((sum * 31 + getD string k 0) % 8192) (drop (k + 1) string)
+pub digest-on : (string : List ℕ) (k sum : ℕ) → k < length string → digestFrom sum (drop k string) ≡ digestFrom ((sum * 31 + getD string k 0) % digests) (drop (k + 1) string)
 unfolding digestFrom
 digest-on string k sum l = ap (digestFrom sum) (left-is string k l)
 
@@ -92,7 +92,7 @@ module _ (text ends : List ℕ) (from : ℕ) where
   unfolding lastBelow
   none-chained heads links empty = record { heads-are = λ d l. empty d; linked = below-none _ }
 
-  module _ (n : ℕ) (heads links : List ℕ) (chained : Chained text ends from n heads links) (mark : ℕ) (small : mark < 8192) where
+  module _ (n : ℕ) (heads links : List ℕ) (chained : Chained text ends from n heads links) (mark : ℕ) (small : mark < digests) where
     module _ (string : List ℕ) (mark-is : mark ≡ digestOf string) where
       head-is : Last (hasDigest text ends from (digestOf string)) n (getD heads mark 0)
       head-is = rw (chained .heads-are mark small, mark-is) (last-below (hasDigest text ends from (digestOf string)) n)
@@ -131,7 +131,7 @@ module _ (text ends : List ℕ) (from : ℕ) where
           linked = below-more _ n (λ k l. getD-set-other links n k (getD heads mark 0) 0 (λ e. omega arith) ∙ chained .linked k l) at-link;
         }
       where
-        at-head : (d : ℕ) → d < 8192 → Dec (mark ≡ d) → getD (set heads mark (n + 1)) d 0 ≡ lastBelow (n + 1) (hasDigest text ends from d)
+        at-head : (d : ℕ) → d < digests → Dec (mark ≡ d) → getD (set heads mark (n + 1)) d 0 ≡ lastBelow (n + 1) (hasDigest text ends from d)
         at-head d l (yes e) =
             ap (λ (i : ℕ). getD (set heads mark (n + 1)) i 0) (inv e)
             ∙ getD-set-same heads mark (n + 1) 0 head-there
@@ -198,7 +198,7 @@ module _ (text ends numbers : List ℕ) (absent : ℕ) where
         fine = fine-none from (from + blockSize);
       }
 
-  module _ (from j : ℕ) (heads links : List ℕ) (to : SoughtTo from j heads links) (mark : ℕ) (small : mark < 8192) (mark-is : mark ≡ digestOf (stringIn text ends j)) where
+  module _ (from j : ℕ) (heads links : List ℕ) (to : SoughtTo from j heads links) (mark : ℕ) (small : mark < digests) (mark-is : mark ≡ digestOf (stringIn text ends j)) where
     -- LAW: the chain on which string j would be
     pub sought-on : j ≤ length ends → ChainFrom text ends from (getD heads mark 0) links (stringIn text ends j)
     sought-on l = chain-of text ends from (to .count) heads links (to .chained) mark small (stringIn text ends j) mark-is (omega (arith, to .within)) (to .few)

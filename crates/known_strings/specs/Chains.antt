@@ -9,10 +9,14 @@ use Rattle.theory.specs.Least.{lastBelow}
 use Rattle.marc.specs.Known.{same}
 use Rattle.known_strings.specs.Lent.{stringIn, badIn}
 
+-- so many digests there are
+abbrev pub digests : ℕ
+digests = 16384
+
 -- a string's digest, behind what is reckoned already
 unfoldable pub digestFrom : ℕ → List ℕ → ℕ
 digestFrom sum [] = sum
-digestFrom sum (b ∷ bs) = digestFrom ((sum * 31 + b) % 8192) bs
+digestFrom sum (b ∷ bs) = digestFrom ((sum * 31 + b) % digests) bs
 
 abbrev pub digestOf : List ℕ → ℕ
 digestOf = digestFrom 0
@@ -32,7 +36,7 @@ module _ (text ends : List ℕ) (from : ℕ) where
 
   -- .. and each digest has its last string as the head of its chain
   pub record Chained (n : ℕ) (heads links : List ℕ) : Type 0 where
-    pub heads-are : (d : ℕ) → d < 8192 → getD heads d 0 ≡ lastBelow n (hasDigest d)
+    pub heads-are : (d : ℕ) → d < digests → getD heads d 0 ≡ lastBelow n (hasDigest d)
     pub linked : LinkedTo n links
 
   -- the chain of a string's digest: its head is 1 and the last string on it, or 0 if there is none

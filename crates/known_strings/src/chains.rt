@@ -7,13 +7,13 @@ ghost use Rattle.theory.specs.Least.{some, leastBelow};
 ghost use Rattle.table.specs.Places.{placeIn};
 ghost use Rattle.marc.specs.Known.{same};
 ghost use Rattle.known_strings.specs.Lent.{stringIn, badIn};
-ghost use Rattle.known_strings.specs.Chains.{digestOf, ChainFrom, BadFrom};
+ghost use Rattle.known_strings.specs.Chains.{digests, digestOf, ChainFrom, BadFrom};
 use crate::compare::same_bytes;
 use crate::list::string_at;
 use table::rules::Place;
 
 // So many digests there are.
-const DIGESTS: usize = 8192;
+const DIGESTS: usize = 16384;
 
 // So many strings are chained at a time.
 const BLOCK: usize = 16384;
@@ -23,7 +23,7 @@ const UNWRITTEN: u16 = 1;
 
 // A number that is the same for the same bytes, and seldom for others.
 fn digest(string: &[u8]) -> usize
-    ensures { λ r. ⌜ (r ≡ digestOf (now (string .entry))) × (r < 8192) ⌝ }
+    ensures { λ r. ⌜ (r ≡ digestOf (now (string .entry))) × (r < digests) ⌝ }
 {
     let n = string.len();
     let mut sum: usize = 0;

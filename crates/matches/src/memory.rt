@@ -31,7 +31,7 @@ const FEW_PAIRS: u16 = 128;
 
 const SOME_SYMBOLS: u16 = 64;
 
-const SOME_PAIRS: u16 = 1024;
+const SOME_PAIRS: u16 = 512;
 
 const MORE_SYMBOLS: u16 = 256;
 
@@ -190,7 +190,7 @@ fn over_modest(
     spans: &mut [u16],
     sets: &mut [u64],
 ) -> Outcome
-    requires { ⌜ (tableIn (now table) .size ≤ 64) × (pairCount (now table) ≤ 1024) ⌝ }
+    requires { ⌜ (tableIn (now table) .size ≤ 64) × (pairCount (now table) ≤ 512) ⌝ }
     requires { ⌜ Accepted (now table) (now pattern) (now heading) cut (now spans) (now sets) ⌝ }
     ensures { λ r. ⌜ resultOf r (now (spans .exit)) (now (sets .exit)) ≡ matchCall (now (table .entry)) (now (pattern .entry)) (now (heading .entry)) cut (now (spans .entry)) (now (sets .entry)) ⌝ }
 {

@@ -50,6 +50,21 @@ pub fn rising_strings() -> Vec<String> {
     strings
 }
 
+/// So many strings in some order: the name and the dates of the short record, and names with a second forename and an initial.
+pub fn many_strings(count: usize) -> Vec<String> {
+    let second = |forename: &'static str| FORENAMES.split(' ').map(move |second| (forename, second));
+    let forenames: Vec<_> = FORENAMES.split(' ').flat_map(second).collect();
+    let mut strings = vec!["Strauss, Johann,".into(), "1804-1849".into()];
+    for initial in 'A'..='Z' {
+        for surname in SURNAMES.split_whitespace() {
+            strings.extend(forenames.iter().map(|(one, two)| format!("{}, {} {} {}.,", surname, one, two, initial)));
+        }
+    }
+    strings.truncate(count);
+    assert_eq!(strings.len(), count);
+    shuffled(&strings)
+}
+
 /// The same strings in some other order.
 pub fn shuffled(strings: &[String]) -> Vec<String> {
     let (mut strings, mut draw) = (strings.to_vec(), Draw::new(2709));

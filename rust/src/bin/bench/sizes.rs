@@ -1,8 +1,9 @@
 //! How cost grows: series of workloads, each about twice as large as the one before it. All of a series have one name, up to its last hyphen.
 
 use crate::build::Table;
-use crate::calls::{answer, check, degree, write, Once};
+use crate::calls::{answer, check, degree, record, write, Once};
 use crate::questions::{headings, repeated};
+use crate::records::{many_strings, short_record};
 use crate::wide::{Degrees, Wide};
 use crate::Workload;
 
@@ -27,6 +28,7 @@ fn series(name: &str, title: &str, sizes: &[usize], make: impl Fn(usize) -> Once
 pub fn workloads() -> Vec<Workload> {
     let pairs = [1024, 2048, 4096, 8192];
     let nodes = [128, 256, 512, 1024];
+    let strings = [1024, 2048, 4096, 8192, 16384, 32768];
     let inner = |positions: usize| positions / 8;
     // In a table of 64 symbols, with no early end, every member of a set is looked up at every position.
     let looked_up = Wide { symbols: 64, faced: 12, degrees: Degrees::Falling, ..Wide::OF_256 };
@@ -54,6 +56,9 @@ pub fn workloads() -> Vec<Workload> {
         }),
         series("size-few-eight", "match, 64 symbols, x eight times, # shared", &[8, 16, 32], move |shared| {
             answer(Wide { shared, ..looked_up }.few_times(8, 15))
+        }),
+        series("size-strings", "record, # strings in any order", &strings, |count| {
+            record(short_record(), &many_strings(count), None)
         }),
     ]
     .into_iter()

@@ -3,37 +3,106 @@ use borrow.Author.Needs.{needs}
 use borrow.Author.Tests.{eq-eqb, ne-eqb}
 use mathlib.Core.Path.{_≡_, sym, ap, _∙_}
 use mathlib.Core.Logic.{inl, inr}
+use mathlib.Core.List.{List}
+use mathlib.Core.Bool.{Bool, true, false}
 use Prim.Native.Nat.{ℕ, _+_, _-_, _≤_, _<_}
 use native.Mathlib.Omega.{arith}
 use denote.Ref.{now}
 use lib.Dec.{eqb}
-use lib.ListN.{length, getD, length-set, length-replicate}
+use lib.ListN.{length, getD, set, length-set, length-replicate}
 use Rattle.theory.specs.Least.{some}
 use Rattle.theory.proofs.Lemmas.{or-right}
 use Rattle.meaning.proofs.Bits.{getD-zeros}
-use Rattle.known_strings.specs.Lent.{stringIn, listedAbove}
-use Rattle.known_strings.specs.Chains.{digestOf}
+use Rattle.known_strings.specs.Lent.{stringIn, listedAbove, badIn}
+use Rattle.known_strings.specs.Chains.{digests, digestOf, blockSize, ChainFrom, BadFrom}
 use Rattle.known_strings.proofs.Chaining.{like, SoughtTo, sought-first, sought-on, sought-bad, sought-next, sought-past}
 use Rattle.known_strings.proofs.chains.bad_from.Statement.{statement}
 use Rattle.known_strings.proofs.chains.bad_from.Tie as tie
 
 abbrev Inv-loop : tie.InvT-loop
 Inv-loop text ends numbers absent from end heads₀ links₀ j₀ heads links j =
-    (from ≤ j) × (j ≤ end) × (length heads ≡ 8192) × (length links ≡ 16384) × SoughtTo text ends numbers absent from j heads links
+    (from ≤ j) × (j ≤ end) × (length heads ≡ digests) × (length links ≡ blockSize) × SoughtTo text ends numbers absent from j heads links
 
 abbrev μ-loop : tie.MeasureT-loop
 μ-loop text ends numbers absent from end heads₀ links₀ j₀ heads links j = end - j
 
--- the mark is string j's
-mark-is : (c : tie.After-digest Inv-loop μ-loop)
-    → let a = c .before .before .before .before .before .before .before .args in
-    c .digest .result ≡ digestOf (stringIn (now (a .text)) (now (a .ends)) (c .before .before .before .loop .j))
-mark-is c = c .digest .ensures .0 ∙ ap digestOf (c .before .string-at .ensures)
+-- a turn of the loop, once the digest of its string is reckoned
+module _ (c : tie.After-digest Inv-loop μ-loop) where
+  abbrev start : tie.Start Inv-loop μ-loop
+  start = c .before .before .before .before .before .before .before
+
+  abbrev text : List ℕ
+  text = now (start .args .text)
+
+  abbrev ends : List ℕ
+  ends = now (start .args .ends)
+
+  abbrev numbers : List ℕ
+  numbers = now (start .args .numbers)
+
+  abbrev j : ℕ
+  j = c .before .before .before .loop .j
+
+  abbrev heads : List ℕ
+  heads = c .before .before .before .loop .heads
+
+  abbrev links : List ℕ
+  links = c .before .before .before .loop .links
+
+  abbrev mark : ℕ
+  mark = c .digest .result
+
+  -- the walk along the chain says that the string was met before
+  abbrev met : Bool
+  met = some (getD heads mark 0) (like text ends (start .args .from) (stringIn text ends j))
+
+  sought : SoughtTo text ends numbers (start .args .absent) (start .args .from) j heads links
+  sought = c .before .before .before .loop .inv .4
+
+  mark-is : mark ≡ digestOf (stringIn text ends j)
+  mark-is = c .digest .ensures .0 ∙ ap digestOf (c .before .string-at .ensures)
+
+  within : j ≤ length ends
+  within = omega (arith, start .pre .1)
+
+  chain : ChainFrom text ends (start .args .from) (getD heads mark 0) links (stringIn text ends j)
+  chain = sought-on text ends numbers (start .args .absent) (start .args .from) j heads links sought mark (c .digest .ensures .1) mark-is within
+
+  -- none before this entry is bad
+  told-bad : badIn text ends numbers (start .args .absent) j ≡ true → BadFrom text ends numbers (start .args .absent) (start .args .from) (start .args .end) j
+  told-bad bad =
+      record {
+        not-before = c .before .before .before .loop .inv .0;
+        not-behind = c .before .before .before .loop .inv .1;
+        fine = sought .fine;
+        bad = λ l. bad;
+      }
+
+  met-bad : met ≡ true → badIn text ends numbers (start .args .absent) j ≡ true
+  met-bad = sought-bad text ends numbers (start .args .absent) (start .args .from) j heads links sought mark (c .digest .ensures .1) mark-is within
+
+  module _ (new : met ≡ false) (number : eqb (getD numbers j 0) (start .args .absent) ≡ false) where
+    abbrev k : ℕ
+    k = j - start .args .from
+
+    k-is : start .args .from + k ≡ j
+    k-is = omega (arith, c .before .before .before .loop .inv .0)
+
+    sought-more : k < blockSize → SoughtTo text ends numbers (start .args .absent) (start .args .from) (j + 1) (set heads mark (k + 1)) (set links k (getD heads mark 0))
+    sought-more l =
+        sought-next text ends numbers (start .args .absent) (start .args .from) j heads links sought mark (c .digest .ensures .1) mark-is new number k k-is l
+        (omega (arith, c .digest .ensures .1, c .before .before .before .loop .inv .2))
+        (omega (arith, c .before .before .before .loop .inv .3))
+
+    sought-on-past : blockSize ≤ k → SoughtTo text ends numbers (start .args .absent) (start .args .from) (j + 1) heads links
+    sought-on-past = sought-past text ends numbers (start .args .absent) (start .args .from) j heads links sought mark (c .digest .ensures .1) mark-is new number k k-is
 
 loop-holds : tie.Need-loop-holds Inv-loop μ-loop
 loop-holds c =
-    let a = c .before .before .before .args in
-    (omega arith, c .before .before .before .pre .0, length-replicate {A = ℕ} 8192 0, length-replicate {A = ℕ} 16384 1, sought-first (now (a .text)) (now (a .ends)) (now (a .numbers)) (a .absent) (a .from) _ _ (getD-zeros 8192))
+    let s = c .before .before .before in
+    let a = s .args in
+    let first = sought-first (now (a .text)) (now (a .ends)) (now (a .numbers)) (a .absent) (a .from) _ _ (getD-zeros 16384) in
+    (omega arith, s .pre .0, length-replicate {A = ℕ} 16384 0, length-replicate {A = ℕ} 16384 1, first)
 
 string-at-requires : tie.Need-string-at-requires Inv-loop μ-loop
 string-at-requires c κs = omega (arith, c .before .before .before .before .before .pre .1)
@@ -48,52 +117,30 @@ array-read-head : tie.Need-array-read-head Inv-loop μ-loop
 array-read-head c = c .digest .ensures .1
 
 is-chained-requires : tie.Need-is-chained-requires Inv-loop μ-loop
-is-chained-requires c κs =
-    let a = c .before .before .before .before .before .before .before .before .args in
-    let head = c .before .before .before .before .loop in
-    rw (c .before .before .string-at .ensures) (sought-on (now (a .text)) (now (a .ends)) (now (a .numbers)) (a .absent) (a .from) (head .j) (head .heads) (head .links) (head .inv .4) (c .before .digest .result) (c .before .digest .ensures .1) (mark-is (c .before)) (omega (arith, c .before .before .before .before .before .before .before .before .pre .1)))
+is-chained-requires c κs = rw (c .before .before .string-at .ensures) (chain (c .before))
 
 -- what the walk says of string j
-told : (c : tie.After-is-chained Inv-loop μ-loop)
-    → let a = c .before .before .before .before .before .before .before .before .before .args in
-    let head = c .before .before .before .before .before .loop in
-    some (getD (head .heads) (c .before .before .digest .result) 0) (like (now (a .text)) (now (a .ends)) (a .from) (stringIn (now (a .text)) (now (a .ends)) (head .j))) ≡ c .is-chained .result
-told c =
-    let a = c .before .before .before .before .before .before .before .before .before .args in
-    let head = c .before .before .before .before .before .loop in
-    ap (λ string. some (getD (head .heads) (c .before .before .digest .result) 0) (like (now (a .text)) (now (a .ends)) (a .from) string)) (sym (c .before .before .before .string-at .ensures)) ∙ sym (c .is-chained .ensures)
+walked : (c : tie.After-is-chained Inv-loop μ-loop) → met (c .before .before) ≡ c .is-chained .result
+walked c =
+    let turn = c .before .before in
+    let head = getD (heads turn) (mark turn) 0 in
+    ap (λ string. some head (like (text turn) (ends turn) (start turn .args .from) string)) (sym (turn .before .string-at .ensures)) ∙ sym (c .is-chained .ensures)
 
 returns : tie.Need-returns Inv-loop μ-loop
 returns c =
-    let s = c .before .before .before .before .before .before .before .before .before .before in
-    let a = s .args in
-    let head = c .before .before .before .before .before .before .loop in
-    let mark = c .before .before .before in
-    let on = told (c .before) ∙ c .if1 .taken in
-    record {
-      not-before = head .inv .0;
-      not-behind = head .inv .1;
-      fine = head .inv .4 .fine;
-      bad = λ l. sought-bad (now (a .text)) (now (a .ends)) (now (a .numbers)) (a .absent) (a .from) (head .j) (head .heads) (head .links) (head .inv .4) (mark .digest .result) (mark .digest .ensures .1) (mark-is mark) (omega (arith, s .pre .1)) on;
-    }
+    let turn = c .before .before .before in
+    told-bad turn (met-bad turn (walked (c .before) ∙ c .if1 .taken))
 
 mul-if2 : tie.Need-mul-if2 Inv-loop μ-loop
 mul-if2 c = search needs
 
 shared-slice-read-if2 : tie.Need-shared-slice-read-if2 Inv-loop μ-loop
-shared-slice-read-if2 c = omega (arith, c .before .before .before .before .before .before .before .before .before .before .before .pre .2)
+shared-slice-read-if2 c = omega (arith, start (c .before .before .before .before) .pre .2)
 
 returns-2 : tie.Need-returns-2 Inv-loop μ-loop
 returns-2 c =
-    let s = c .before .before .before .before .before .before .before .before .before .before .before .before in
-    let a = s .args in
-    let head = c .before .before .before .before .before .before .before .before .loop in
-    record {
-      not-before = head .inv .0;
-      not-behind = head .inv .1;
-      fine = head .inv .4 .fine;
-      bad = λ l. or-right (listedAbove (now (a .text)) (now (a .ends)) (head .j)) (eqb (getD (now (a .numbers)) (head .j) 0) (a .absent)) (eq-eqb _ _ (c .if2 .taken));
-    }
+    let turn = c .before .before .before .before .before in
+    told-bad turn (or-right (listedAbove (text turn) (ends turn) (j turn)) (eqb (getD (numbers turn) (j turn) 0) (start turn .args .absent)) (eq-eqb _ _ (c .if2 .taken)))
 
 sub-k : tie.Need-sub-k Inv-loop μ-loop
 sub-k c = c .before .before .before .before .before .before .before .before .loop .inv .0
@@ -124,28 +171,18 @@ loop-less c = omega arith
 
 loop-again : tie.Need-loop-again Inv-loop μ-loop
 loop-again c =
-    let s = c .before .before .before .before .before .before .before .before .before .before .before .before .before in
-    let a = s .args in
-    let head = c .before .before .before .before .before .before .before .before .before .loop in
-    let mark = c .before .before .before .before .before .before .digest in
-    let none = told (c .before .before .before .before) ∙ c .before .before .before .if1 .left in
-    let number = ne-eqb (getD (now (a .numbers)) (head .j) 0) (a .absent) (c .before .if2 .left) in
-    let at : a .from + (head .j - a .from) ≡ head .j = omega (arith, head .inv .0) in
+    let turn = c .before .before .before .before .before .before in
+    let inv = turn .before .before .before .loop .inv in
+    let new = walked (c .before .before .before .before) ∙ c .before .before .before .if1 .left in
+    let number = ne-eqb (getD (numbers turn) (j turn) 0) (start turn .args .absent) (c .before .if2 .left) in
+    let from = start turn .args .from in
+    let head = getD (heads turn) (mark turn) 0 in
     elim (c .if3 .came) [
-      | inl w ↦ rw (w .1, w .2) (
-        omega arith,
-        omega arith,
-        length-set (head .heads) (mark .result) (head .j - a .from + 1) ∙ head .inv .2,
-        length-set (head .links) (head .j - a .from) (getD (head .heads) (mark .result) 0) ∙ head .inv .3,
-        sought-next (now (a .text)) (now (a .ends)) (now (a .numbers)) (a .absent) (a .from) (head .j) (head .heads) (head .links) (head .inv .4) (mark .result) (mark .ensures .1) (mark-is (c .before .before .before .before .before .before)) none number (head .j - a .from) at (omega (arith, w .0 .taken)) (omega (arith, mark .ensures .1, head .inv .2)) (omega (arith, w .0 .taken, head .inv .3)),
-      )
-      | inr w ↦ rw (w .1, w .2) (
-        omega arith,
-        omega arith,
-        head .inv .2,
-        head .inv .3,
-        sought-past (now (a .text)) (now (a .ends)) (now (a .numbers)) (a .absent) (a .from) (head .j) (head .heads) (head .links) (head .inv .4) (mark .result) (mark .ensures .1) (mark-is (c .before .before .before .before .before .before)) none number (head .j - a .from) at (omega (arith, w .0 .left)),
-      )
+      | inl w ↦
+          let heads-there = length-set (heads turn) (mark turn) (j turn - from + 1) ∙ inv .2 in
+          let links-there = length-set (links turn) (j turn - from) head ∙ inv .3 in
+          rw (w .1, w .2) (omega arith, omega arith, heads-there, links-there, sought-more turn new number (omega (arith, w .0 .taken)))
+      | inr w ↦ rw (w .1, w .2) (omega arith, omega arith, inv .2, inv .3, sought-on-past turn new number (omega (arith, w .0 .left)))
     ]
 
 returns-3 : tie.Need-returns-3 Inv-loop μ-loop

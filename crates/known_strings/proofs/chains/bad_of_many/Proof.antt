@@ -45,7 +45,7 @@ loop-again c =
     let more = c .bad-from2 .ensures in (
       more .not-before,
       omega (arith, more .not-behind, head .inv .1),
-      fine-joined (now (a .text)) (now (a .ends)) (now (a .numbers)) (a .absent) (head .from + 16384) _ (head .end) _ (head .inv .2) (more .fine) (more .not-behind),
+      fine-joined (now (a .text)) (now (a .ends)) (now (a .numbers)) (a .absent) (head .from + blockSize) _ (head .end) _ (head .inv .2) (more .fine) (more .not-behind),
       λ l. bad-on (now (a .text)) (now (a .ends)) (now (a .numbers)) (a .absent) (head .end) (a .n) _ (more .not-behind) (more .bad) (head .inv .3) l,
     )
 
@@ -54,7 +54,7 @@ returns c =
     let a = c .before .before .before .before .before .before .before .args in
     let head = c .before .before .loop in
     let bad = badIn (now (a .text)) (now (a .ends)) (now (a .numbers)) (a .absent) in
-    let none = none-below bad (head .end) (fine-all (now (a .text)) (now (a .ends)) (now (a .numbers)) (a .absent) (head .from + 16384) (head .end) (head .inv .2) (omega arith)) in
+    let none = none-below bad (head .end) (fine-all (now (a .text)) (now (a .ends)) (now (a .numbers)) (a .absent) (head .from + blockSize) (head .end) (head .inv .2) (omega arith)) in
     sym (least-at bad (head .end) (a .n) none (head .inv .3 (c .if1 .taken)) (c .if1 .taken))
 
 returns-2 : tie.Need-returns-2 Inv-loop μ-loop
@@ -63,7 +63,7 @@ returns-2 c =
     let head = c .before .before .loop in
     let bad = badIn (now (a .text)) (now (a .ends)) (now (a .numbers)) (a .absent) in
     let all : a .n ≡ head .end = omega (arith, head .inv .1) in
-    let none = none-below bad (head .end) (fine-all (now (a .text)) (now (a .ends)) (now (a .numbers)) (a .absent) (head .from + 16384) (head .end) (head .inv .2) (omega arith)) in
+    let none = none-below bad (head .end) (fine-all (now (a .text)) (now (a .ends)) (now (a .numbers)) (a .absent) (head .from + blockSize) (head .end) (head .inv .2) (omega arith)) in
     sym (ap (λ n. leastBelow n bad) all ∙ none)
 
 pub bad-of-many-spec : {M : Type 1} → statement M

@@ -5,13 +5,13 @@ use Prim.Native.Nat.{_-_, _≤_, _<_}
 use native.Mathlib.Omega.{arith}
 use denote.Ref.{now}
 use lib.ListN.{length, drop}
-use Rattle.known_strings.specs.Chains.{digestFrom, digestOf}
+use Rattle.known_strings.specs.Chains.{digests, digestFrom, digestOf}
 use Rattle.known_strings.proofs.Chaining.{digest-on, digest-ends}
 use Rattle.known_strings.proofs.chains.digest.Statement.{statement}
 use Rattle.known_strings.proofs.chains.digest.Tie as tie
 
 abbrev Inv-loop : tie.InvT-loop
-Inv-loop string n sum₀ k₀ sum k = (n ≡ length string) × (k ≤ n) × (sum < 8192) × (digestFrom sum (drop k string) ≡ digestOf string)
+Inv-loop string n sum₀ k₀ sum k = (n ≡ length string) × (k ≤ n) × (sum < digests) × (digestFrom sum (drop k string) ≡ digestOf string)
 
 abbrev μ-loop : tie.MeasureT-loop
 μ-loop string n sum₀ k₀ sum k = n - k

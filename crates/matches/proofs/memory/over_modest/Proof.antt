@@ -17,7 +17,7 @@ search-in-requires c κs =
     let s = c .before .before .before .before .before .before .before .before .before in
     let a = s .args in
     let p = s .pre in
-    (p .1, (none-gathered _ 576 (omega (arith, p .0 .0)), index-room (now (a .table)) 64 1024 3297 (p .0 .0) (p .0 .1) (omega arith)))
+    (p .1, (none-gathered _ 576 (omega (arith, p .0 .0)), index-room (now (a .table)) 64 512 2785 (p .0 .0) (p .0 .1) (omega arith)))
 
 same-length : tie.Need-same-length
 same-length c = search needs
