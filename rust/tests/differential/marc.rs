@@ -125,6 +125,45 @@ fn long_lists_and_long_records() {
     told("exchange records, long lists and long records", met.asked, 600);
 }
 
+/// So many strings in no order, no two the same.
+fn many_strings(count: usize) -> Vec<Vec<u8>> {
+    (0..count as u32).map(|k| k.wrapping_mul(0x9e37_79b1).to_be_bytes().to_vec()).collect()
+}
+
+/// Such strings that the proved test has on one chain, since they have one digest.
+fn strings_of_one_digest(count: usize) -> Vec<Vec<u8>> {
+    let digest = |bytes: &[u8; 4]| bytes.iter().fold(0, |sum, &byte| (sum * 31 + u32::from(byte)) % 16_384);
+    let all = (0..=u32::MAX).map(u32::to_le_bytes).filter(|bytes| digest(bytes) == 0);
+    all.map(|bytes| bytes.to_vec()).take(count).collect()
+}
+
+/// A string twice, in entries at the edges of blocks of 16,384 strings, and sometimes the number of absent dates: the first fault is told.
+#[test]
+fn lists_of_several_blocks() {
+    let mut draw = Draw::new(74);
+    let mut met = Met::default();
+    for strings in [16_384, 16_385, 32_769, 50_000].map(many_strings).into_iter().chain([strings_of_one_digest(600)]) {
+        let (count, record) = (strings.len(), record(&mut draw, &strings[..1]));
+        met.ask(&record, &List::new(&strings, vec![7; count]), 8, RECORD_NODES);
+        let mut edges = vec![0, 300, 16_383, 16_384, 32_768, count - 1];
+        edges.retain(|&edge| edge < count);
+        edges.dedup();
+        for (index, &later) in edges.iter().enumerate() {
+            for &earlier in &edges[..index] {
+                let (mut twice, mut numbers) = (strings.clone(), vec![7; count]);
+                twice[later] = strings[earlier].clone();
+                let absent = draw.below(2 * count);
+                numbers.iter_mut().skip(absent).take(1).for_each(|number| *number = 8);
+                let told = marc_heading(&record, &List::new(&twice, numbers), 8, RECORD_NODES);
+                assert_eq!(told, Err(WideRefusal { number: 19, place: later.min(absent) as u64 }));
+                met.asked += 1;
+            }
+        }
+    }
+    assert!(met.numbers[1] == 0, "{:?}", met);
+    told("exchange records, lists of several blocks", met.asked, 40);
+}
+
 #[test]
 fn each_byte_and_each_length() {
     let mut draw = Draw::new(73);
