@@ -59,8 +59,8 @@
  * - Every pointer is aligned as its C type asks.
  * - What a call may write (all that is not const) overlaps nothing else that is lent to that call. Lists that are only read may overlap.
  * - Nothing else writes to what is lent while the call runs.
- * - The thread's stack has room: 104 KB for shx_match, whatever its table is, 50 KB for shx_write_table, however few its pairs are, 17 KB
- *   for shx_marc_heading, whatever its list is, 3 KB for shx_heading_degree and shx_nearer, 1 KB for any other call.
+ * - The thread's stack has room: 104 KB for shx_match, whatever its table is, 50 KB for shx_write_table, however few its pairs are, 66 KB
+ *   for shx_marc_heading with a list of more than 24 strings that do not rise, 3 KB for shx_heading_degree and shx_nearer, 1 KB for any other call.
  *
  * Beyond that nothing is asked: every table, list and number is accepted or refused as above. The calls keep nothing, allocate nothing and can run
  * in several threads at once. What each does for every input is proved (crates/capi/specs); that a C caller keeps the list above is not.
@@ -190,8 +190,9 @@ uint32_t shx_widen(const uint64_t *words, size_t words_len, uint64_t *out, size_
  *
  * The time grows with the record's bytes, and with the list, which every call tests. Best are strings that rise (byte by byte; one that ends first
  * stands first): then the test is one walk over the list, and a text is sought by halving. In any other order a text is sought by one walk, and in the
- * test a string is held against those before it where one of them has the same digest, one of 16,384: with many thousands of strings, or with ones that
- * are chosen for it, the test grows with the square of their number.
+ * test a string is held against those before it that have the same digest, one of 16,384. So many strings are gone over in one walk; with more, the
+ * ones behind are gone over again for each further 16,384. With strings that are chosen for it, so that they share a digest, the test grows with the
+ * square of their number.
  */
 uint64_t shx_marc_heading(
     const uint8_t *record, size_t record_len, const uint8_t *text, size_t text_len, const uint32_t *ends, size_t ends_len, const uint16_t *numbers,

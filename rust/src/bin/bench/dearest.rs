@@ -1,6 +1,8 @@
-//! The hardest questions that are known for a match: wide sets in which every member has to be looked at, at every position.
+//! The hardest questions that are known for a match: wide sets in which every member has to be looked at, at every position. And lists of known
+//! strings that are chosen for it.
 
-use crate::calls::answer;
+use crate::calls::{answer, record};
+use crate::records::{short_record, strings_of_one_digest};
 use crate::wide::{Degrees, Stand, Wide};
 use crate::Workload;
 
@@ -46,5 +48,9 @@ pub fn workloads() -> Vec<Workload> {
             workload("28", "32 variables 28 times each", |table| table.by_turns(32)),
         ]
     };
-    TABLES.into_iter().flat_map(of_each).collect()
+    let of_one_digest = |count: usize| {
+        let (name, title) = (format!("dear-digest-{}", count), format!("record, {} strings of one digest", count));
+        Workload::new(&name, &title, TIMES, move || record(short_record(), &strings_of_one_digest(count), None))
+    };
+    TABLES.into_iter().flat_map(of_each).chain([512, 1024].map(of_one_digest)).collect()
 }

@@ -65,6 +65,15 @@ pub fn many_strings(count: usize) -> Vec<String> {
     shuffled(&strings)
 }
 
+/// So many strings that share one digest of the proved test, in no order, and those of the short record.
+pub fn strings_of_one_digest(count: usize) -> Vec<String> {
+    let digest = |string: &String| string.bytes().fold(0, |sum, byte| (sum * 31 + usize::from(byte)) % 16_384);
+    let all = (0..).map(|number: usize| format!("{:08}", number)).filter(|string| digest(string) == 0);
+    let mut strings: Vec<String> = all.take(count - 2).collect();
+    strings.extend(["Strauss, Johann,".into(), "1804-1849".into()]);
+    shuffled(&strings)
+}
+
 /// The same strings in some other order.
 pub fn shuffled(strings: &[String]) -> Vec<String> {
     let (mut strings, mut draw) = (strings.to_vec(), Draw::new(2709));
