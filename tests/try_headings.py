@@ -70,8 +70,9 @@ def long_lists():
         rising = [(b'%d' % k, 7) for k in range(100000, 100000 + count - len(KNOWN))] + sorted(KNOWN)
         many = list_file(SYMBOL, ABSENT, rising)
         yield from (many, many + b'5\n', many[:-1])
-    unlike = list_file(SYMBOL, ABSENT, [(b'%d' % (7919 * k % 10007), 7) for k in range(3000)] + KNOWN)
-    yield from (unlike, unlike + b'7 0\n', unlike + b'9 A\n')
+    for count, prime in (3000, 10007), (40000, 40009):
+        unlike = list_file(SYMBOL, ABSENT, [(b'%d' % (7919 * k % prime), 7) for k in range(count)] + KNOWN)
+        yield from (unlike, unlike + b'7 0\n', unlike + b'9 A\n')
     yield b'0 9\n' + b'1 \n' * 349523
 
 
