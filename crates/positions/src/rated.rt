@@ -23,9 +23,12 @@ use wide::Degrees;
 use wide::SMALL_TABLE;
 use wide::wide_degrees;
 
-// A set is large where it has more symbols than this. With fewer, rows would pay where the same symbols stand at every position, since these are kept;
-// where others stand at each, a row is laid out for every one of them, and that costs more than looking so few up.
-const FEW: u16 = 16;
+// A set is large where it has more symbols than a sixteenth of the table, at least these few and at most these. A row of degrees has a number for each
+// symbol, so it costs the less the smaller the table is. In a large table rows would pay for smaller sets where the same symbols stand at every position,
+// since these are kept; where others stand at each, a row is laid out for every one of them, and that costs more than looking so few up.
+const LEAST_FEW: u16 = 4;
+
+const MOST_FEW: u16 = 16;
 
 // What a symbol shares with those that stand there: the least of its degrees with them.
 fn shared_degree(table: &[u8], counts: Counts, index: &[u16], faced: SymbolSet, symbol: u16) -> u16
@@ -56,6 +59,13 @@ fn left_after(word: u64, most: u16) -> u16 {
     left
 }
 
+// How many symbols a set has at most where they are looked up.
+fn few_of(symbols: u16) -> u16
+    ensures { λ r. ⌜ r ≤ 16 ⌝ }
+{
+    lesser(greater(symbols / 16, LEAST_FEW), MOST_FEW)
+}
+
 // Whether degrees are to be laid out side by side. Either way of finding them gives the same ones, so this decides speed alone.
 fn is_large(symbols: u16, words: &[u64; SymbolSet::WORDS]) -> bool
     ensures { λ r. ⌜ (r ≡ true → smallTable < symbols) ⌝ }
@@ -63,7 +73,7 @@ fn is_large(symbols: u16, words: &[u64; SymbolSet::WORDS]) -> bool
     if symbols <= SMALL_TABLE {
         return false;
     }
-    let mut left = FEW + 1;
+    let mut left = few_of(symbols) + 1;
     for i in 0..SymbolSet::WORDS {
         left = left_after(words[i], left);
         if left == 0 {

@@ -16,6 +16,9 @@ abbrev μ-loop : tie.MeasureT-loop
 returns : tie.Need-returns Inv-loop μ-loop
 returns c = λ e. absurd (false≢true e)
 
+few-of-requires : tie.Need-few-of-requires Inv-loop μ-loop
+few-of-requires c κs = search needs
+
 add-left : tie.Need-add-left Inv-loop μ-loop
 add-left c = search needs
 
@@ -53,6 +56,7 @@ is-large-spec =
     Inv-loop
     μ-loop
     returns
+    few-of-requires
     add-left
     loop-holds
     mul-left-after
