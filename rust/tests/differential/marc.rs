@@ -130,11 +130,9 @@ fn many_strings(count: usize) -> Vec<Vec<u8>> {
     (0..count as u32).map(|k| k.wrapping_mul(0x9e37_79b1).to_be_bytes().to_vec()).collect()
 }
 
-/// Such strings that the proved test has on one chain, since they have one digest.
+/// Such strings that the proved test has on one chain: their digest takes a byte 31 times with the next one added, so that it is the same of all.
 fn strings_of_one_digest(count: usize) -> Vec<Vec<u8>> {
-    let digest = |bytes: &[u8; 4]| bytes.iter().fold(0, |sum, &byte| (sum * 31 + u32::from(byte)) % 16_384);
-    let all = (0..=u32::MAX).map(u32::to_le_bytes).filter(|bytes| digest(bytes) == 0);
-    all.map(|bytes| bytes.to_vec()).take(count).collect()
+    (0..count).map(|k| (0..10).flat_map(|bit| if k >> bit & 1 == 0 { *b"B[" } else { *b"Az" }).collect()).collect()
 }
 
 /// A string twice, in entries at the edges of blocks of 16,384 strings, and sometimes the number of absent dates: the first fault is told.

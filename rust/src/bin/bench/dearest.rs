@@ -9,7 +9,7 @@ use crate::Workload;
 const TIMES: usize = 3;
 
 /// As many shared constants as there can be beside enough that face variables, and as many as can stand sparsely; then 16 and 17, between which
-/// the proved match changes from looking each up to rows of degrees, and a table of 64 symbols, in which it never does.
+/// the proved match changes from looking each up to rows of degrees, and a table of 64 symbols, in which it does so between 4 and 5.
 const OF_256: Wide =
     Wide { symbols: 256, faced: 28, shared: 224, degrees: Degrees::Falling, stand: Stand::SideBySide };
 const OF_512: Wide =

@@ -65,11 +65,10 @@ pub fn many_strings(count: usize) -> Vec<String> {
     shuffled(&strings)
 }
 
-/// So many strings that share one digest of the proved test, in no order, and those of the short record.
+/// So many strings that share one digest of the proved test, which takes a byte 31 times with the next one added; and those of the short record.
 pub fn strings_of_one_digest(count: usize) -> Vec<String> {
-    let digest = |string: &String| string.bytes().fold(0, |sum, byte| (sum * 31 + usize::from(byte)) % 16_384);
-    let all = (0..).map(|number: usize| format!("{:08}", number)).filter(|string| digest(string) == 0);
-    let mut strings: Vec<String> = all.take(count - 2).collect();
+    let string = |k: usize| (0..10).map(|bit| if k >> bit & 1 == 0 { "B[" } else { "Az" }).collect();
+    let mut strings: Vec<String> = (0..count - 2).map(string).collect();
     strings.extend(["Strauss, Johann,".into(), "1804-1849".into()]);
     shuffled(&strings)
 }

@@ -30,8 +30,9 @@ pub fn workloads() -> Vec<Workload> {
     let nodes = [128, 256, 512, 1024];
     let strings = [1024, 2048, 4096, 8192, 16384, 32768];
     let inner = |positions: usize| positions / 8;
-    // In a table of 64 symbols, with no early end, every member of a set is looked up at every position.
-    let looked_up = Wide { symbols: 64, faced: 12, degrees: Degrees::Falling, ..Wide::OF_256 };
+    // With no early end every member of a set of up to 16 is looked up at every position, in a table of 64 symbols of up to 4.
+    let looked_up = Wide { faced: 12, degrees: Degrees::Falling, ..Wide::OF_256 };
+    let of_64 = Wide { symbols: 64, ..looked_up };
     [
         series("size-check", "table check, # pairs", &pairs, |pairs| check(Table::of_256_symbols(pairs))),
         series("size-write", "table writer, # pairs", &pairs, |pairs| write(Table::of_256_symbols(pairs))),
@@ -51,11 +52,14 @@ pub fn workloads() -> Vec<Workload> {
         series("size-shared", "match, wide sets, x twice, # shared", &[28, 56, 112, 224], |shared| {
             answer(Wide { shared, ..Wide::OF_256 }.few_times(2, 63))
         }),
-        series("size-few", "match, 64 symbols, x twice, # shared", &[8, 16, 32], move |shared| {
+        series("size-few", "match, x twice, # shared", &[4, 8, 16], move |shared| {
             answer(Wide { shared, ..looked_up }.few_times(2, 63))
         }),
-        series("size-few-eight", "match, 64 symbols, x eight times, # shared", &[8, 16, 32], move |shared| {
+        series("size-few-eight", "match, x eight times, # shared", &[4, 8, 16], move |shared| {
             answer(Wide { shared, ..looked_up }.few_times(8, 15))
+        }),
+        series("size-64", "match, 64 symbols, x eight times, # shared", &[2, 4, 8, 16, 32], move |shared| {
+            answer(Wide { shared, ..of_64 }.few_times(8, 15))
         }),
         series("size-strings", "record, # strings in any order", &strings, |count| {
             record(short_record(), &many_strings(count), None)
