@@ -1,4 +1,6 @@
 // The symbols near each symbol of a heading.
+#![tactic(auto)]
+
 ghost use Rattle.std.specs.Prelude.{◌≡◌, ℕ, ◌+◌, ◌-◌, ◌*◌, ◌<◌, ◌≤◌, max, length, get_or};
 ghost use Rattle.meaning.specs.Limits.{setWords, setRoom};
 ghost use Rattle.meaning.specs.File.{tableIn};
