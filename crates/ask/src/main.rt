@@ -1,10 +1,8 @@
 // Answers the question on standard input, on standard output.
-#![tactic(auto)]
-
 ghost use Rattle.std.specs.Prelude.{◌≤◌, length};
 ghost use Rattle.meaning.specs.Program.{output};
-ghost use Rattle.shape.specs.Rooms.{mostRoom};
-ghost use Rattle.lines.specs.Lines.{lineRoom};
+ghost use Rattle.shape.specs.Rooms.{most_room};
+ghost use Rattle.lines.specs.Lines.{line_room};
 ghost use Rattle.input.specs.Unreads.{unread};
 ghost use Rattle.output.specs.Pendings.{Said};
 
@@ -16,7 +14,7 @@ use shape::room::MOST_ROOM;
 // Says the answer to the question that was read.
 fn answer_read(input: &[u8], read: Unread, sets: &mut [u64], out: &mut [u8]) -> Pending
     requires at_le_end { (read.at ≤ read.end) × (read.end ≤ length input.now) }
-    requires most_room_in_bounds { (mostRoom ≤ length sets.old) × (lineRoom ≤ length out.old) }
+    requires most_room_in_bounds { (most_room ≤ length sets.old) × (line_room ≤ length out.old) }
     ensures { Said out.old 0 (output (unread input.now read.at read.end)) result out.new }
 {
     let at = read.at;

@@ -18,7 +18,7 @@ use Rattle.capi.specs.Terms.{ShxHeadingDegree, ShxSubterm, ShxNearer}
 use Rattle.capi.specs.Matching.{ShxMatch}
 use Rattle.capi.specs.Writing.{ShxWriteTable}
 use Rattle.capi.specs.Saving.{ShxWiden}
-use Rattle.capi.specs.Marc.{highest_place, wideCode, ShxMarcHeading}
+use Rattle.capi.specs.Marc.{highest_place, wide_code_lem, ShxMarcHeading}
 use Rattle.capi.proofs.Wide.{told_itself}
 
 -- THEOREM: any two results that a promise allows are equal, and so is what they leave
@@ -111,9 +111,9 @@ fault_numbered NoName = (omega arith, omega arith)
 fault_numbered UnlistedName = (omega arith, omega arith)
 fault_numbered UnlistedDates = (omega arith, omega arith)
 
-tells_wide : (g : Given) → 0 < number_of g → number_of g < 65536 → place_of g ≤ highest_place → Tells (wideCode g) g
+tells_wide : (g : Given) → 0 < number_of g → number_of g < 65536 → place_of g ≤ highest_place → Tells (wide_code_lem g) g
 tells_wide (refusal n place) l m h = subst (λ p. Tells (code_of (refusal n p)) (refusal n place)) (told_itself place place refl h) (tells (refusal n place) l m)
 
 -- THEOREM: the code of a refused record is not 0, and has the refusal's number and its place, where 48 bits tell it
-pub wide_code_tells : (why : Fault) → place_of (fault-told why) ≤ highest_place → Tells (wideCode (fault-told why)) (fault-told why)
+pub wide_code_tells : (why : Fault) → place_of (fault-told why) ≤ highest_place → Tells (wide_code_lem (fault-told why)) (fault-told why)
 wide_code_tells why = tells_wide (fault-told why) (fault_numbered why).0 (fault_numbered why).1

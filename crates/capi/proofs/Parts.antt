@@ -7,7 +7,7 @@ use native.Mathlib.Omega.{arith}
 use native.Mathlib.Decide.{dec_lt}
 use lib.ListN.{length, take, drop}
 use Rattle.meaning.specs.Refusals.{Refusal, first}
-use Rattle.meaning.specs.Calls.{Part, part, subtermRows, subterm}
+use Rattle.meaning.specs.Calls.{Part, part, subterm_rows, subterm}
 use Rattle.meaning.specs.Parts.{SubtermIs}
 use Rattle.meaning.proofs.Parts.{subterms}
 use Rattle.headings.specs.Terms.{Nodes, IsPart, Subterm, accepted}
@@ -29,9 +29,9 @@ module _ (table term : List ℕ) (i : ℕ) where
   of_some s = subst (Whole term) (sym s.handed_back) (ap length s.holds_it)
 
   whole : Whole term at
-  whole = go (first (subtermRows table term)) refl (dec_lt i (length term))
+  whole = go (first (subterm_rows table term)) refl (dec_lt i (length term))
     where
-      go : (o : Option Refusal) → first (subtermRows table term) ≡ o → Dec (i < length term) → Whole term at
+      go : (o : Option Refusal) → first (subterm_rows table term) ≡ o → Dec (i < length term) → Whole term at
       go (just r) e d = of_none (no_subterm table term (ap accepted e) i)
       go none e (yes l) = of_some (subterms.found table term i e l)
       go none e (no n) = of_none (subterms.outside_part table term i (omega arith))

@@ -14,7 +14,7 @@ use Rattle.exchange.specs.Heading.{ReadHeading}
 use Rattle.exchange.specs.declared.Fault.{Fault}
 use Rattle.exchange.specs.declared.Headed.{Headed}
 use Rattle.exchange.specs.declared.Headed.TheVariants.{Written, Refused}
-use Rattle.capi.specs.Marc.{highest_place, told_place, wideCode, wide_coded, ShxMarcHeading}
+use Rattle.capi.specs.Marc.{highest_place, told_place, wide_code_lem, wide_coded, ShxMarcHeading}
 
 -- LAW: the place that is told is the highest one, or the place itself
 pub told-highest : (place at : ℕ) → place ≡ at → highest_place < place → highest_place ≡ told_place at
@@ -24,10 +24,10 @@ pub told_itself : (place at : ℕ) → place ≡ at → place ≤ highest_place 
 told_itself place at e l = e ∙ sym (rw (le-ltb highest_place at (omega (arith, e))))
 
 -- LAW: a code is made of a number and the place that is told
-pub wide_code_is : (g : Given) (n place : ℕ) → n ≡ number_of g → place ≡ told_place (place_of g) → n + 65536 * place ≡ wideCode g
+pub wide_code_is : (g : Given) (n place : ℕ) → n ≡ number_of g → place ≡ told_place (place_of g) → n + 65536 * place ≡ wide_code_lem g
 wide_code_is (refusal m at) n place e f = ap₂ (λ a b. a + 65536 * b) e f
 
-coded_refusal : (g : Given) (answer : Answer Yes) → refused_as g ≡ answer → wideCode g ≡ wide_coded answer
+coded_refusal : (g : Given) (answer : Answer Yes) → refused_as g ≡ answer → wide_code_lem g ≡ wide_coded answer
 coded_refusal (refusal n place) answer e = ap wide_coded e
 
 module _ (bytes text ends numbers : List ℕ) (heading absent : ℕ) (nodes : List ℕ) (r : Headed) (nodes' : List ℕ) (p : ReadHeading bytes text ends numbers heading absent nodes r nodes') where
@@ -36,7 +36,7 @@ module _ (bytes text ends numbers : List ℕ) (heading absent : ℕ) (nodes : Li
   written_promised is = record { answers = ap wide_coded (ap said (sym is) ∙ p.answers); leaves = p.leaves }
 
   -- LAW: .. and a refusal as its code
-  pub refusal_promised : (why : Fault) (code : ℕ) → code ≡ wideCode (told why) → r ≡ Refused why → ShxMarcHeading bytes text ends numbers heading absent nodes code nodes'
+  pub refusal_promised : (why : Fault) (code : ℕ) → code ≡ wide_code_lem (told why) → r ≡ Refused why → ShxMarcHeading bytes text ends numbers heading absent nodes code nodes'
   refusal_promised why code c is =
       record {
         answers = c ∙ coded_refusal (told why) (headed bytes (known_in text ends numbers) heading absent nodes) (ap said (sym is) ∙ p.answers);

@@ -15,12 +15,12 @@ abbrev pub told_place : ℕ → ℕ
 told_place place = cond (ltb highest_place place) highest_place place
 
 -- A refusal's number in the low 16 bits, its place in the high 48.
-abbrev pub wideCode : Refusal → ℕ
-wideCode (refusal n place) = code_of (refusal n (told_place place))
+abbrev pub wide_code_lem : Refusal → ℕ
+wide_code_lem (refusal n place) = code_of (refusal n (told_place place))
 
 -- The number that the call returns: 0 where nothing is refused.
 abbrev pub wide_coded : Answer Yes → ℕ
-wide_coded (refused n place) = wideCode (refusal n place)
+wide_coded (refused n place) = wide_code_lem (refusal n place)
 wide_coded (gives a) = 0
 
 pub record ShxMarcHeading (bytes text ends numbers : List ℕ) (heading absent : ℕ) (nodes : List ℕ) (r : ℕ) (nodes' : List ℕ) : Type 0 where

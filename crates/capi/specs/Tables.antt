@@ -28,11 +28,11 @@ lower_of (pair lower higher degree) = lower
 abbrev pub higher_of : Pair → ℕ
 higher_of (pair lower higher degree) = higher
 
-abbrev pub degreeOf : Pair → ℕ
-degreeOf (pair lower higher degree) = degree
+abbrev pub degree_of : Pair → ℕ
+degree_of (pair lower higher degree) = degree
 
 pub record ShxPair (table : List ℕ) (index lower higher degree r lower' higher' degree' : ℕ) : Type 0 where
   pub answers : r ≡ coded (pair_back table index)
   pub leaves_lower : lower' ≡ later lower_of (pair_back table index) lower
   pub leaves_higher : higher' ≡ later higher_of (pair_back table index) higher
-  pub leaves_degree : degree' ≡ later degreeOf (pair_back table index) degree
+  pub leaves_degree : degree' ≡ later degree_of (pair_back table index) degree

@@ -1,7 +1,7 @@
 // The call on an exchange record.
 ghost use Rattle.std.specs.Prelude.{◌≡◌};
 ghost use Rattle.exchange.specs.Said.{told};
-ghost use Rattle.capi.specs.Marc.{wideCode, ShxMarcHeading};
+ghost use Rattle.capi.specs.Marc.{wide_code_lem, ShxMarcHeading};
 
 use exchange::{Fault, Headed, read_heading};
 
@@ -11,7 +11,7 @@ const HIGHEST_PLACE: u64 = 281474976710655;
 // A refusal as one number of 64 bits: the place has the high 48. A place that is higher yet, in a list with more entries than fit any memory,
 // is told as the highest.
 fn wide_code(why: Fault) -> u64
-    ensures { result ≡ wideCode (told why) }
+    ensures { result ≡ wide_code_lem (told why) }
 {
     let number = why.number() as u64;
     let place = why.place() as u64;

@@ -7,7 +7,7 @@ use native.Mathlib.Decide.{dec_lt, ℕ_discrete}
 use native.Mathlib.Omega.{arith}
 use lib.ListN.{length, get_or, set, length-set}
 use lib.Seq.{get_or-set_same, get_or-set_other}
-use Rattle.meaning.specs.File.{pairCount, tableIn}
+use Rattle.meaning.specs.File.{pair_count_lem, table_in}
 use Rattle.meaning.specs.Tables.{lower_at}
 use Rattle.meaning.specs.Refusals.{SoundFile}
 use Rattle.meaning.specs.Calls.{zeros}
@@ -21,7 +21,7 @@ use Rattle.degrees.proofs.Halving.{not_falling}
 use Rattle.degrees.proofs.Listed.{pair_symbols, keys_rise, same_symbols}
 
 -- LAW: a list of zeros leaves every row anywhere
-pub rows_anywhere : (file rows : List ℕ) → 2 * (tableIn file).size ≤ length rows → rows ≡ zeros (length rows) → Rows file rows
+pub rows_anywhere : (file rows : List ℕ) → 2 * (table_in file).size ≤ length rows → rows ≡ zeros (length rows) → Rows file rows
 rows_anywhere file rows room e =
     record { room = room; from = λ k l. omega (arith, none (2 * lower_at file k)); behind = λ k l. omega (arith, none (2 * lower_at file k + 1)); within = λ s l. omega (arith, none (2 * s + 1)) }
   where
@@ -45,16 +45,16 @@ stored P l i v j h new old = go (ℕ_discrete j i)
 
 -- No pair before pair k is of the row of one from k on.
 abbrev pub Parted : List ℕ → ℕ → Type 0
-Parted file k = (i j : ℕ) → i < k → k ≤ j → j < pairCount file → lower_at file i < lower_at file j
+Parted file k = (i j : ℕ) → i < k → k ≤ j → j < pair_count_lem file → lower_at file i < lower_at file j
 
 -- All pairs of the row of symbol `row` stand from pair `first` to below pair `end`.
 pub record RowStands (file : List ℕ) (row first end : ℕ) : Type 0 where
-  pub symbol : row < (tableIn file).size
-  pub within : end ≤ pairCount file
-  pub inside : (j : ℕ) → j < pairCount file → lower_at file j ≡ row → (first ≤ j) × (j < end)
+  pub symbol : row < (table_in file).size
+  pub within : end ≤ pair_count_lem file
+  pub inside : (j : ℕ) → j < pair_count_lem file → lower_at file j ≡ row → (first ≤ j) × (j < end)
 
 -- LAW: a symbol's range may be narrowed to where its row stands
-pub narrowed : (file rows : List ℕ) (row first end behind : ℕ) → Rows file rows → RowStands file row first end → behind ≡ pairCount file - end
+pub narrowed : (file rows : List ℕ) (row first end behind : ℕ) → Rows file rows → RowStands file row first end → behind ≡ pair_count_lem file - end
     → RowsLaid file rows (set (set rows (2 * row) first) (2 * row + 1) behind)
 narrowed file rows row first end behind laid stands is =
     record { rows = right; rest = λ i l. elsewhere i (omega (arith, stands.symbol)) }
@@ -72,10 +72,10 @@ narrowed file rows row first end behind laid stands is =
     odd : (s : ℕ) → get_or begun (2 * s + 1) 0 ≡ get_or rows (2 * s + 1) 0
     odd s = get_or-set_other rows (2 * row) (2 * s + 1) first 0 (λ e. omega arith)
 
-    from : (j : ℕ) → j < pairCount file → get_or begun (2 * lower_at file j) 0 ≤ j
+    from : (j : ℕ) → j < pair_count_lem file → get_or begun (2 * lower_at file j) 0 ≤ j
     from j m = stored (λ x. x ≤ j) rows (2 * row) first (2 * lower_at file j) (omega (arith, stands.symbol, laid.room)) (λ e. (stands.inside j m (omega arith)).0) (laid.from j m)
 
-    ended : (j : ℕ) → j < pairCount file → 2 * lower_at file j + 1 ≡ 2 * row + 1 → j + behind < pairCount file
+    ended : (j : ℕ) → j < pair_count_lem file → 2 * lower_at file j + 1 ≡ 2 * row + 1 → j + behind < pair_count_lem file
     ended j m e = omega (arith, (stands.inside j m (omega arith)).1, stands.within)
 
     right : Rows file (set begun (2 * row + 1) behind)
@@ -83,13 +83,13 @@ narrowed file rows row first end behind laid stands is =
         record {
           room = simp length-set laid.room;
           from = λ j m. rw (get_or-set_other begun (2 * row + 1) (2 * lower_at file j) behind 0 (λ e. omega arith)) (from j m);
-          behind = λ j m. stored (λ x. j + x < pairCount file) begun (2 * row + 1) behind (2 * lower_at file j + 1) space (ended j m) (rw (odd (lower_at file j)) (laid.behind j m));
-          within = λ s m. stored (λ x. x ≤ pairCount file) begun (2 * row + 1) behind (2 * s + 1) space (λ e. omega arith) (rw (odd s) (laid.within s m));
+          behind = λ j m. stored (λ x. j + x < pair_count_lem file) begun (2 * row + 1) behind (2 * lower_at file j + 1) space (ended j m) (rw (odd (lower_at file j)) (laid.behind j m));
+          within = λ s m. stored (λ x. x ≤ pair_count_lem file) begun (2 * row + 1) behind (2 * s + 1) space (λ e. omega arith) (rw (odd s) (laid.within s m));
         }
 
 module _ (file : List ℕ) (ok : SoundFile file) where
   abbrev n : ℕ
-  n = pairCount file
+  n = pair_count_lem file
 
   -- no lower symbol is below that of an earlier pair
   lowers : (i j : ℕ) → i ≤ j → j < n → lower_at file i ≤ lower_at file j

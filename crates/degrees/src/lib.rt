@@ -1,10 +1,8 @@
 // The degree of two symbol numbers.
-#![tactic(auto)]
-
 pub mod rows;
 
 ghost use Rattle.std.specs.Prelude.{◌≡◌, ◌+◌, ◌<◌, min, max, length};
-ghost use Rattle.meaning.specs.File.{number, pairCount, tableIn};
+ghost use Rattle.meaning.specs.File.{number, pair_count_lem, table_in};
 ghost use Rattle.meaning.specs.Refusals.{SoundFile};
 ghost use Rattle.table.specs.Keys.{key_of};
 ghost use Rattle.table.specs.Read.{Counted};
@@ -35,8 +33,8 @@ fn listed_between(
     higher: u16,
 ) -> u16
     requires counted { Counted file.now counts × (lower < higher) }
-    requires between { Between (key_at file.now) (pairCount file.now) (key_of lower higher) first end }
-    ensures { result ≡ (tableIn file.now).deg lower higher }
+    requires between { Between (key_at file.now) (pair_count_lem file.now) (key_of lower higher) first end }
+    ensures { result ≡ (table_in file.now).deg lower higher }
 {
     let wanted = key(lower, higher);
     let start = 10 + counts.symbols as usize;
@@ -61,7 +59,7 @@ fn listed_between(
 // The degree of two numbers, for one who asks often and has read the counts once.
 pub fn counted_degree(file: &[u8], counts: Counts, a: u16, b: u16) -> u16
     requires { Counted file.now counts }
-    ensures { result ≡ (tableIn file.now).deg a b }
+    ensures { result ≡ (table_in file.now).deg a b }
 {
     let lower = lesser(a, b);
     let higher = greater(a, b);
@@ -77,7 +75,7 @@ pub fn counted_degree(file: &[u8], counts: Counts, a: u16, b: u16) -> u16
 
 pub fn degree(file: &[u8], a: u16, b: u16) -> u16
     requires { SoundFile file.now }
-    ensures { result ≡ (tableIn file.now).deg a b }
+    ensures { result ≡ (table_in file.now).deg a b }
 {
     counted_degree(file, counts_of(file), a, b)
 }

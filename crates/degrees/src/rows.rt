@@ -1,6 +1,6 @@
 // Each symbol's row: the pairs whose lower symbol it is. They stand side by side, so one who asks often seeks a pair there alone.
 ghost use Rattle.std.specs.Prelude.{◌≡◌, ◌≤◌, ◌<◌};
-ghost use Rattle.meaning.specs.File.{pairCount, tableIn};
+ghost use Rattle.meaning.specs.File.{pair_count_lem, table_in};
 ghost use Rattle.table.specs.Read.{Counted};
 ghost use Rattle.degrees.specs.Rows.{Rows, RowsLaid, NoneBefore, PassedRow};
 
@@ -14,7 +14,7 @@ const STRETCH: u16 = 8;
 // Passes pairs of the row of symbol `row`, from pair `first` on, so many at a time, for as long as the last of them is of the row; pairs rise, so
 // those before it are too. Gives the pair behind them.
 fn pass_row(file: &[u8], counts: Counts, row: u16, first: usize, stretch: u16) -> usize
-    requires counted { Counted file.now counts × (first ≤ pairCount file.now) × (0 < stretch) }
+    requires counted { Counted file.now counts × (first ≤ pair_count_lem file.now) × (0 < stretch) }
     requires none_before { NoneBefore file.now row first }
     ensures { PassedRow file.now row first stretch result }
 {
@@ -78,8 +78,8 @@ pub fn lay_where_worth(file: &[u8], counts: Counts, rows: &mut [u16], asked: usi
 // The degree of two symbols of the table, sought in the lower one's row.
 pub fn degree_in_row(file: &[u8], counts: Counts, rows: &[u16], a: u16, b: u16) -> u16
     requires counted { Counted file.now counts × Rows file.now rows.now }
-    requires a_bound { (a < (tableIn file.now).size) × (b < (tableIn file.now).size) }
-    ensures { result ≡ (tableIn file.now).deg a b }
+    requires a_bound { (a < (table_in file.now).size) × (b < (table_in file.now).size) }
+    ensures { result ≡ (table_in file.now).deg a b }
 {
     if a == b {
         return 1000;

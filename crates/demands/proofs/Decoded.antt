@@ -12,7 +12,7 @@ use lib.ListN.{length, drop, length-take, length-drop}
 use borrow.Author.Tests.{ne_eqb}
 use Rattle.theory.specs.Tree.{Pattern, var, sym, encₚ}
 use Rattle.meaning.specs.Refusals.{Refusal as Given, refusal, place_of, first}
-use Rattle.meaning.specs.Calls.{Answer, refused, gives, refused_as, aye, degrees, is_table_lem, symbol_degree_lem, heading_degree, matched, written, arity_back, pair_back, Part, part, subtermRows, subterm, Nearer, the_first, the_second_lem, neither, nearer}
+use Rattle.meaning.specs.Calls.{Answer, refused, gives, refused_as, aye, degrees, is_table_lem, symbol_degree_lem, heading_degree, matched, written, arity_back, pair_back, Part, part, subterm_rows, subterm, Nearer, the_first, the_second_lem, neither, nearer}
 use Rattle.meaning.specs.Saved.{widened_count}
 use Rattle.meaning.proofs.First.{unless_refused}
 use Rattle.meaning.proofs.Parts.{subterms}
@@ -39,14 +39,14 @@ use Rattle.tables.specs.declared.ArityAnswer.TheVariants.{Arity, Refused as NoAr
 use Rattle.tables.specs.declared.PairAnswer.{PairAnswer}
 use Rattle.tables.specs.declared.PairAnswer.TheVariants.{Listed, Refused as NoPair}
 use Rattle.tables.specs.Tables.{said_table, said_degree, said_arity, said_pair}
-use Rattle.table.specs.Read.{pairIn}
+use Rattle.table.specs.Read.{pair_in}
 use Rattle.table.specs.declared.read.Pair.{Pair as Record}
 use Rattle.records.specs.Records.{listed}
 use Rattle.headings.specs.Terms.{Nodes, IsPart, Subterm, IsChosen, Nearer as NearerTo, accepted}
 use Rattle.headings.proofs.Lists.{no_subterm}
 use Rattle.capi.specs.Answers.{code_of, coded}
 use Rattle.capi.specs.Terms.{count_of, chosen}
-use Rattle.capi.specs.Marc.{highest_place, wideCode, wide_coded}
+use Rattle.capi.specs.Marc.{highest_place, wide_code_lem, wide_coded}
 use Rattle.capi.proofs.OneCapi.{Tells, code_tells, wide_code_tells}
 use Rattle.demands.specs.ForC.{most_strings, answer_of, subterm_of, nearer_of}
 use Rattle.demands.proofs.Possible.{some_calls, kept}
@@ -107,7 +107,7 @@ module _ (table : List ℕ) where
   pair_decodes index = subst Decodes (kept.pair_of_lem table index) (go (some_calls.pair_of table index))
     where
       go : (r : PairAnswer) → Decodes (said_pair r)
-      go (Listed p) = gives_decodes (pairIn p)
+      go (Listed p) = gives_decodes (pair_in p)
       go (NoPair why) = refused_decodes why
 
 writings_decode : (r : Writing) → Decodes (said r)
@@ -138,9 +138,9 @@ module _ (bytes text ends numbers : List ℕ) (heading absent : ℕ) (nodes : Li
       go Read m = refl
       go (NotRead why) m = of (toldFault why) m (wide_code_tells why)
         where
-          of : (g : Given) → refused_as g ≡ headed bytes (known_in text ends numbers) heading absent nodes → (place_of g ≤ highest_place → Tells (wideCode g) g)
+          of : (g : Given) → refused_as g ≡ headed bytes (known_in text ends numbers) heading absent nodes → (place_of g ≤ highest_place → Tells (wide_code_lem g) g)
               → answer_of (wide_coded (refused_as g)) aye ≡ refused_as g
-          of (refusal n place) m tells = tells_decodes (wideCode (refusal n place)) (refusal n place) aye (tells (place_told n place (inv m)))
+          of (refusal n place) m tells = tells_decodes (wide_code_lem (refusal n place)) (refusal n place) aye (tells (place_told n place (inv m)))
 
 -- ---- a subterm by its number of nodes
 
@@ -153,9 +153,9 @@ some_nodes (var v) = omega arith
 some_nodes (sym f ps) = omega arith
 
 pub shown : (table term : List ℕ) (i : ℕ) → Shown term i (subterm table term i)
-shown table term i = go (first (subtermRows table term)) refl (dec_lt i (length term))
+shown table term i = go (first (subterm_rows table term)) refl (dec_lt i (length term))
   where
-    go : (o : Option Given) → first (subtermRows table term) ≡ o → Dec (i < length term) → Shown term i (subterm table term i)
+    go : (o : Option Given) → first (subterm_rows table term) ≡ o → Dec (i < length term) → Shown term i (subterm table term i)
     go (just r) e d = inl (no_subterm table term (ap accepted e) i)
     go none e (yes l) =
         let s = subterms.found table term i e l in

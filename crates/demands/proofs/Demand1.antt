@@ -10,7 +10,7 @@ use native.Mathlib.Omega.{arith}
 use lib.ListN.{length}
 use Rattle.theory.specs.Tree.{Term, node, Pattern, var, sym, enc, encₚ}
 use Rattle.meaning.specs.Refusals.{Refusal, refusal, first}
-use Rattle.meaning.specs.Calls.{is_table_lem, symbol_degree_lem, heading_degree, part, subtermRows, subterm, Nearer as Which, the_first, the_second_lem, neither, nearerRows, nearer, matched, written, arity_back, pair_back}
+use Rattle.meaning.specs.Calls.{is_table_lem, symbol_degree_lem, heading_degree, part, subterm_rows, subterm, Nearer as Which, the_first, the_second_lem, neither, nearer_rows, nearer, matched, written, arity_back, pair_back}
 use Rattle.meaning.specs.Saved.{widened_count}
 use Rattle.meaning.specs.Parts.{SubtermIs, NearerIs}
 use Rattle.meaning.proofs.First.{first_given, given_first, exactly}
@@ -48,16 +48,16 @@ module _ (table : List ℕ) (term : Nodes) (i : ℕ) (r : Nodes) (k : Subterm ta
       let p : PartOf term r i (length (encₚ s.q)) = subst (IsPart term r) s.handed_back k in
       some_node s.q (inv s.holds_it ∙ inv p.holds ∙ x.no_nodes)
 
-  empty_part : EmptyAt term r ↔ (Refuses (subtermRows table term.now) ⊎ (length term.now ≤ i))
-  empty_part = ((λ x. go (first (subtermRows table term.now)) refl (dec_lt i (length term.now)) x), back)
+  empty_part : EmptyAt term r ↔ (Refuses (subterm_rows table term.now) ⊎ (length term.now ≤ i))
+  empty_part = ((λ x. go (first (subterm_rows table term.now)) refl (dec_lt i (length term.now)) x), back)
     where
-      go : (o : Option Refusal) → first (subtermRows table term.now) ≡ o → Dec (i < length term.now) → EmptyAt term r
-          → Refuses (subtermRows table term.now) ⊎ (length term.now ≤ i)
-      go (just (refusal n place)) q d x = inl (n, place, first_given (subtermRows table term.now) n place q)
+      go : (o : Option Refusal) → first (subterm_rows table term.now) ≡ o → Dec (i < length term.now) → EmptyAt term r
+          → Refuses (subterm_rows table term.now) ⊎ (length term.now ≤ i)
+      go (just (refusal n place)) q d x = inl (n, place, first_given (subterm_rows table term.now) n place q)
       go none q (no m) x = inr (omega arith)
       go none q (yes m) x = absurd (not_empty (subterms.found table term.now i q m) x)
 
-      back : Refuses (subtermRows table term.now) ⊎ (length term.now ≤ i) → EmptyAt term r
+      back : Refuses (subterm_rows table term.now) ⊎ (length term.now ≤ i) → EmptyAt term r
       back (inl g) = empty (subterms.refused_part table term.now i g.0 g.1 g.2)
       back (inr l) = empty (subterms.outside_part table term.now i l)
 
@@ -69,19 +69,19 @@ module _ (table heading : List ℕ) (one two r : Nodes) (k : Nearer table headin
   not_empty_one s the_second_lem n c x = some_symbol s.u (inv s.writes_two.holds.is ∙ ap (λ x. x.now) (inv c) ∙ x.no_nodes)
   not_empty_one s neither n c x = n refl
 
-  none_refused : first (nearerRows table heading one.now two.now) ≡ none → nearer table heading one.now two.now ≡ neither → ⊥
+  none_refused : first (nearer_rows table heading one.now two.now) ≡ none → nearer table heading one.now two.now ≡ neither → ⊥
   none_refused q e =
       let g = (nearest.neither_if table heading one.now two.now).0 e in
-      some-ne-none (refusal g.0 g.1) (inv (given_first (nearerRows table heading one.now two.now) g.0 g.1 g.2) ∙ q)
+      some-ne-none (refusal g.0 g.1) (inv (given_first (nearer_rows table heading one.now two.now) g.0 g.1 g.2) ∙ q)
 
-  empty_choice : EmptyAt one r ↔ Refuses (nearerRows table heading one.now two.now)
+  empty_choice : EmptyAt one r ↔ Refuses (nearer_rows table heading one.now two.now)
   empty_choice = (
-    (λ x. go (first (nearerRows table heading one.now two.now)) refl x),
+    (λ x. go (first (nearer_rows table heading one.now two.now)) refl x),
     (λ g. empty_at one r (subst (IsChosen one two r) ((nearest.neither_if table heading one.now two.now).1 g) k)),
   )
     where
-      go : (o : Option Refusal) → first (nearerRows table heading one.now two.now) ≡ o → EmptyAt one r → Refuses (nearerRows table heading one.now two.now)
-      go (just (refusal n place)) q x = (n, place, first_given (nearerRows table heading one.now two.now) n place q)
+      go : (o : Option Refusal) → first (nearer_rows table heading one.now two.now) ≡ o → EmptyAt one r → Refuses (nearer_rows table heading one.now two.now)
+      go (just (refusal n place)) q x = (n, place, first_given (nearer_rows table heading one.now two.now) n place q)
       go none q x = absurd (not_empty_one (nearest.found table heading one.now two.now q) (nearer table heading one.now two.now) (none_refused q) k x)
 
 -- THEOREM

@@ -3,7 +3,7 @@ use mathlib.Core.Path.{sym as inv, subst}
 use mathlib.Core.List.{List}
 use Prim.Native.Nat.{ℕ}
 use Rattle.theory.specs.Tree.{Term, Pattern}
-use Rattle.meaning.specs.File.{tableIn}
+use Rattle.meaning.specs.File.{table_in}
 use Rattle.meaning.specs.Calls.{degrees, Matched}
 use Rattle.meaning.specs.Demands.{WritesTerm, WritesPattern, Decides, TwoCuts, Demand2 as MatchOf, Demand3 as CutsOf}
 use Rattle.meaning.proofs.Wrong.{found_given}
@@ -11,23 +11,23 @@ use Rattle.demands.specs.Program.{Program}
 use Rattle.demands.specs.Demand2.{Demand2}
 use Rattle.demands.specs.Demand3.{DrawnOf, OfTwoCuts, Demand3}
 
-module _ (table pattern heading : List ℕ) (p : Pattern) (wp : WritesPattern (tableIn table) pattern p) (h : Term) (wh : WritesTerm (tableIn table) heading h) where
+module _ (table pattern heading : List ℕ) (p : Pattern) (wp : WritesPattern (table_in table) pattern p) (h : Term) (wh : WritesTerm (table_in table) heading h) where
   -- of the trees that the lists write, whichever way they are named
-  decides : (cut : ℕ) (r : Matched) → MatchOf table pattern heading cut r → Decides (tableIn table) cut p h r
+  decides : (cut : ℕ) (r : Matched) → MatchOf table pattern heading cut r → Decides (table_in table) cut p h r
   decides cut r d =
-      subst (λ x. Decides (tableIn table) cut x h r) (inv (d.writes_pattern.only p wp))
-      (subst (λ y. Decides (tableIn table) cut d.p y r) (inv (d.writes_heading.only h wh)) d.decides)
+      subst (λ x. Decides (table_in table) cut x h r) (inv (d.writes_pattern.only p wp))
+      (subst (λ y. Decides (table_in table) cut d.p y r) (inv (d.writes_heading.only h wh)) d.decides)
 
-  two_cuts : (cut₁ : ℕ) (r₁ : Matched) (cut₂ : ℕ) (r₂ : Matched) → CutsOf table pattern heading cut₁ r₁ cut₂ r₂ → TwoCuts (tableIn table) p h cut₁ r₁ cut₂ r₂
+  two_cuts : (cut₁ : ℕ) (r₁ : Matched) (cut₂ : ℕ) (r₂ : Matched) → CutsOf table pattern heading cut₁ r₁ cut₂ r₂ → TwoCuts (table_in table) p h cut₁ r₁ cut₂ r₂
   two_cuts cut₁ r₁ cut₂ r₂ d =
-      subst (λ x. TwoCuts (tableIn table) x h cut₁ r₁ cut₂ r₂) (inv (d.writes_pattern.only p wp))
-      (subst (λ y. TwoCuts (tableIn table) d.p y cut₁ r₁ cut₂ r₂) (inv (d.writes_heading.only h wh)) d.two_cuts)
+      subst (λ x. TwoCuts (table_in table) x h cut₁ r₁ cut₂ r₂) (inv (d.writes_pattern.only p wp))
+      (subst (λ y. TwoCuts (table_in table) d.p y cut₁ r₁ cut₂ r₂) (inv (d.writes_heading.only h wh)) d.two_cuts)
 
 -- LAW
 drawn_of : (table pattern heading : List ℕ) (cut₁ : ℕ) (r₁ : Matched) (cut₂ : ℕ) (r₂ : Matched) → MatchOf table pattern heading cut₁ r₁ → MatchOf table pattern heading cut₂ r₂
     → CutsOf table pattern heading cut₁ r₁ cut₂ r₂ → DrawnOf table pattern heading cut₁ r₁ cut₂ r₂
 drawn_of table pattern heading cut₁ r₁ cut₂ r₂ one two cuts p wp h wh (degrees low high) e σ =
-    let T = tableIn table in
+    let T = table_in table in
     let c = two_cuts table pattern heading p wp h wh cut₁ r₁ cut₂ r₂ cuts in
     let n = c.answers low high e in
     let f₁ = found_given T cut₁ p h r₁ (decides table pattern heading p wp h wh cut₁ r₁ one) (degrees n.low₁ n.high₁) n.first_answers in

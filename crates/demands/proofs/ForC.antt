@@ -8,7 +8,7 @@ use lib.Dec.{leb}
 use lib.ListN.{length}
 use borrow.Author.Tests.{leb-true}
 use Rattle.theory.specs.Pairs.{Pair, pair}
-use Rattle.meaning.specs.Calls.{Answer, refused, gives, Yes, aye, is_table_lem, symbol_degree_lem, heading_degree, Degrees, degrees, lowest_in, highest_in, matched, matchCall, later_spans, later_sets, written, laterOutput, arity_back, pair_back, subterm, nearer}
+use Rattle.meaning.specs.Calls.{Answer, refused, gives, Yes, aye, is_table_lem, symbol_degree_lem, heading_degree, Degrees, degrees, lowest_in, highest_in, matched, match_call, later_spans, later_sets, written, later_output, arity_back, pair_back, subterm, nearer}
 use Rattle.meaning.specs.Tables.{write_call}
 use Rattle.meaning.specs.Saved.{widen_call, widened_count, later_words}
 use Rattle.meaning.proofs.Parts.{nearest as meant-nearest}
@@ -17,7 +17,7 @@ use Rattle.headings.specs.Terms.{Nodes, Subterm, Nearer}
 use Rattle.marc.specs.Known.{known_in}
 use Rattle.marc.specs.Heading.{heading_call}
 use Rattle.capi.specs.Answers.{coded, later, laterNumber}
-use Rattle.capi.specs.Tables.{lower_of, higher_of, degreeOf}
+use Rattle.capi.specs.Tables.{lower_of, higher_of, degree_of}
 use Rattle.capi.specs.Terms.{count_of, chosen}
 use Rattle.capi.specs.Marc.{wide_coded}
 use Rattle.demands.specs.Program.{Promise}
@@ -69,7 +69,7 @@ module _ (C : CCalls) (k : CKept C) where
         both : (d : Degrees) → degrees (lowest_in (gives d)) (highest_in (gives d)) ≡ d
         both (degrees low high) = refl
 
-    matches : (program_of_c C).match table pattern heading cut spans sets ≡ matchCall table pattern heading cut spans sets
+    matches : (program_of_c C).match table pattern heading cut spans sets ≡ match_call table pattern heading cut spans sets
     matches =
         let p = k.match table pattern heading cut spans sets in
         λ i. record { answer = match_answers i; spans = p.spans_later i; sets = p.sets_later i }
@@ -92,13 +92,13 @@ module _ (C : CCalls) (k : CKept C) where
   pairs_back table index =
       let p = k.pair table index in
       let r = C.pair table index in
-      let left : Answer Pair → Pair = λ x. pair (later lower_of x r.lower.before) (later higher_of x r.higher.before) (later degreeOf x r.degree.before) in
+      let left : Answer Pair → Pair = λ x. pair (later lower_of x r.lower.before) (later higher_of x r.higher.before) (later degree_of x r.degree.before) in
       numbers p.answers p.leaves_lower p.leaves_higher p.leaves_degree ∙ pair_decodes table index left whole
     where
       numbers : {c c' l l' h h' d d' : ℕ} → c ≡ c' → l ≡ l' → h ≡ h' → d ≡ d' → answer_of c (pair l h d) ≡ answer_of c' (pair l' h' d')
       numbers a b e f = cc
 
-      whole : (x : Pair) → pair (lower_of x) (higher_of x) (degreeOf x) ≡ x
+      whole : (x : Pair) → pair (lower_of x) (higher_of x) (degree_of x) ≡ x
       whole (pair l h d) = refl
 
   widens : (words output : List ℕ) → (program_of_c C).widen words output ≡ widen_call words output
@@ -160,7 +160,7 @@ module _ (C : CCalls) (k : CKept C) where
         pair = λ table index n place e.
             let p = k.pair table index in
             let is = inv (pairs_back table index) ∙ e in
-            (untouched lower_of _ is p.leaves_lower, untouched higher_of _ is p.leaves_higher, untouched degreeOf _ is p.leaves_degree);
+            (untouched lower_of _ is p.leaves_lower, untouched higher_of _ is p.leaves_higher, untouched degree_of _ is p.leaves_degree);
         widen = λ words output n place e. untouched (λ d. d) _ (inv (ap (λ w. w.answer) (widens words output)) ∙ e) (k.widen words output).written-later;
       }
 
@@ -202,7 +202,7 @@ module _ (held : ℕ) where
             };
         write_table_lem = λ arities records output.
             let r = number (written arities (listed records) output) in
-            record { code = r.code; output = laterOutput arities (listed records) output; count = r.number };
+            record { code = r.code; output = later_output arities (listed records) output; count = r.number };
         arity = λ table symbol. number (arity_back table symbol);
         pair = λ table index.
             let answer = pair_back table index in
@@ -210,7 +210,7 @@ module _ (held : ℕ) where
               code = coded answer;
               lower = record { before = held; after = later lower_of answer held };
               higher = record { before = held; after = later higher_of answer held };
-              degree = record { before = held; after = later degreeOf answer held };
+              degree = record { before = held; after = later degree_of answer held };
             };
         widen = λ words output. let r = number (widened_count words output) in record { code = r.code; output = later_words words output; count = r.number };
         marc_heading = λ bytes text ends numbers heading absent nodes.

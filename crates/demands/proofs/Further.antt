@@ -5,9 +5,9 @@ use mathlib.Core.Logic.{◌↔◌}
 use mathlib.Core.List.{List}
 use Prim.Native.Nat.{ℕ}
 use Rattle.theory.specs.Tree.{Term, Pattern}
-use Rattle.meaning.specs.File.{tableIn}
-use Rattle.meaning.specs.Refusals.{first, tableRows, SoundFile}
-use Rattle.meaning.specs.Calls.{gives, aye, is_table_lem, matchCall}
+use Rattle.meaning.specs.File.{table_in}
+use Rattle.meaning.specs.Refusals.{first, table_rows, SoundFile}
+use Rattle.meaning.specs.Calls.{gives, aye, is_table_lem, match_call}
 use Rattle.meaning.specs.Demands.{WritesTerm, WritesPattern, Accepted, Decides, Demand2}
 use Rattle.meaning.specs.Tables.{TableFile}
 use Rattle.meaning.specs.TopCut.{AtTopCut}
@@ -42,13 +42,13 @@ use Rattle.demands.proofs.RecordHeadings.{record_headings}
 is_table_lem-is : (file : List ℕ) → is_table_lem file ≡ gives aye ↔ TableFile file
 unfolding is_table_lem
 is_table_lem-is file = (
-  (λ e. (recognised file).0 (unless_gives (first (tableRows file)) aye aye e).0),
+  (λ e. (recognised file).0 (unless_gives (first (table_rows file)) aye aye e).0),
   (λ t. rw ((recognised file).1 t)),
 )
 
 pub says : (table pattern heading : List ℕ) (cut : ℕ) (spans sets : List ℕ) → Accepted table pattern heading cut spans sets
-    → (p : Pattern) → WritesPattern (tableIn table) pattern p → (h : Term) → WritesTerm (tableIn table) heading h
-    → MatchSays (tableIn table) cut p h pattern (matchCall table pattern heading cut spans sets)
+    → (p : Pattern) → WritesPattern (table_in table) pattern p → (h : Term) → WritesTerm (table_in table) heading h
+    → MatchSays (table_in table) cut p h pattern (match_call table pattern heading cut spans sets)
 says table pattern heading cut spans sets a p wp h wh =
     let r : Ready table pattern heading cut = ready table pattern heading cut spans sets a in
     rw (r.pattern_is.only p wp, r.heading_is.only h wh)
@@ -61,24 +61,24 @@ says table pattern heading cut spans sets a p wp h wh =
     })
 
 at_top : (table pattern heading spans sets : List ℕ) → Accepted table pattern heading 1000 spans sets
-    → (p : Pattern) → WritesPattern (tableIn table) pattern p → (h : Term) → WritesTerm (tableIn table) heading h
-    → AtTopCut (tableIn table) p h pattern heading (matchCall table pattern heading 1000 spans sets)
+    → (p : Pattern) → WritesPattern (table_in table) pattern p → (h : Term) → WritesTerm (table_in table) heading h
+    → AtTopCut (table_in table) p h pattern heading (match_call table pattern heading 1000 spans sets)
 at_top table pattern heading spans sets a p wp h wh =
     let r : Ready table pattern heading 1000 = ready table pattern heading 1000 spans sets a in
     let s = says table pattern heading 1000 spans sets a p wp h wh in
-    at_top_cut (tableIn table) r.lawful r.only_itself r.small pattern heading p wp h wh _ decides s.reasons s.sets_and_degrees
+    at_top_cut (table_in table) r.lawful r.only_itself r.small pattern heading p wp h wh _ decides s.reasons s.sets_and_degrees
   where
-    d : Demand2 table pattern heading 1000 (matchCall table pattern heading 1000 spans sets)
+    d : Demand2 table pattern heading 1000 (match_call table pattern heading 1000 spans sets)
     d = of_match table pattern heading 1000 spans sets a
 
-    decides : Decides (tableIn table) 1000 p h (matchCall table pattern heading 1000 spans sets)
+    decides : Decides (table_in table) 1000 p h (match_call table pattern heading 1000 spans sets)
     decides = rw (d.writes_pattern.only p wp, d.writes_heading.only h wh) d.decides
 
 accepted : (table : List ℕ) → is_table_lem table ≡ gives aye → SoundFile table
 unfolding is_table_lem
-accepted table e = (unless_gives (first (tableRows table)) aye aye e).0
+accepted table e = (unless_gives (first (table_rows table)) aye aye e).0
 
-match_stated : (H : Handing) → HandsBack H → (table pattern heading : List ℕ) (cut : ℕ) (spans sets : List ℕ) → Stated table pattern heading cut spans sets (matchCall table pattern heading cut spans sets)
+match_stated : (H : Handing) → HandsBack H → (table pattern heading : List ℕ) (cut : ℕ) (spans sets : List ℕ) → Stated table pattern heading cut spans sets (match_call table pattern heading cut spans sets)
 match_stated H k table pattern heading cut spans sets = stated (meant H) (demand1 H k) (demand2 H) table pattern heading cut spans sets (says table pattern heading cut spans sets)
 
 -- THEOREM

@@ -8,9 +8,9 @@ use Prim.Native.Nat.{ℕ, ◌≤◌, ◌<◌}
 use borrow.Author.Tests.{lt-ltb, le-ltb}
 use lib.ListN.{length}
 use Rattle.theory.specs.Tree.{Pattern, encₚ}
-use Rattle.meaning.specs.File.{tableIn}
+use Rattle.meaning.specs.File.{table_in}
 use Rattle.meaning.specs.Refusals.{first}
-use Rattle.meaning.specs.Calls.{gives, heading_degree, subtermRows, subterm, the_first, the_second_lem, nearer}
+use Rattle.meaning.specs.Calls.{gives, heading_degree, subterm_rows, subterm, the_first, the_second_lem, nearer}
 use Rattle.meaning.specs.Demands.{WritesPattern}
 use Rattle.meaning.specs.Parts.{subterm_at, SubtermIs}
 use Rattle.meaning.proofs.Parts.{subterms}
@@ -20,8 +20,8 @@ use Rattle.demands.proofs.Meant.{Handing, HandsBack, meant}
 use Rattle.demands.proofs.Paired.{chosen}
 
 module _ (H : Handing) (k : HandsBack H) where
-  found : (table : List ℕ) (term : Nodes) (i : ℕ) → first (subtermRows table term.now) ≡ none → i < length term.now
-      → (p : Pattern) → WritesPattern (tableIn table) term.now p → (q : Pattern) × (subterm_at p i ≡ just q) × StandsFrom term (H.subterm table term i) i q
+  found : (table : List ℕ) (term : Nodes) (i : ℕ) → first (subterm_rows table term.now) ≡ none → i < length term.now
+      → (p : Pattern) → WritesPattern (table_in table) term.now p → (q : Pattern) × (subterm_at p i ≡ just q) × StandsFrom term (H.subterm table term i) i q
   found table term i f l p w =
       let s : SubtermIs table term.now i (subterm table term.now i) = subterms.found table term.now i f l in
       let j : PartOf term (H.subterm table term i) i (length (encₚ s.q)) = subst (IsPart term (H.subterm table term i)) s.handed_back (k.subterm table term i) in

@@ -3,7 +3,7 @@
 use mathlib.Core.Path.{◌≡◌, sym as inv, ◌∙◌, subst}
 use mathlib.Core.List.{List}
 use Prim.Native.Nat.{ℕ}
-use Rattle.meaning.specs.Calls.{is_table_lem, symbol_degree_lem, heading_degree, Matched, matchCall, arity_back, pair_back}
+use Rattle.meaning.specs.Calls.{is_table_lem, symbol_degree_lem, heading_degree, Matched, match_call, arity_back, pair_back}
 use Rattle.meaning.specs.Tables.{write_call}
 use Rattle.meaning.specs.Saved.{widen_call}
 use Rattle.headings.specs.Terms.{Nodes, Subterm, Nearer}
@@ -39,7 +39,7 @@ with_match H other =
     }
 
 abbrev pub meant : Handing → Program
-meant H = with_match H matchCall
+meant H = with_match H match_call
 
 -- those of a program
 abbrev pub handing : Program → Handing

@@ -7,12 +7,12 @@ use mathlib.Core.Option.{Option, none, some as just}
 use Prim.Native.Nat.{ℕ, ◌/◌, ◌%◌, ◌≤◌}
 use native.Mathlib.Omega.{arith}
 use lib.ListN.{length}
-use Rattle.theory.specs.Least.{All, leastBelow}
+use Rattle.theory.specs.Least.{All, least_below}
 use Rattle.theory.specs.Pairs.{Pair}
 use Rattle.theory.proofs.Lemmas.{both_false, least-none}
-use Rattle.meaning.specs.File.{total, pairsOf}
-use Rattle.meaning.specs.Refusals.{Row, row, row_number, first, unordered, badPair, row2, row3, row4, row8-output}
-use Rattle.meaning.specs.Calls.{Answer, refused, unless, writer_rows, written, laterOutput}
+use Rattle.meaning.specs.File.{total, pairs_of}
+use Rattle.meaning.specs.Refusals.{Row, row, row_number, first, unordered, bad_pair_lem, row2, row3, row4, row8-output}
+use Rattle.meaning.specs.Calls.{Answer, refused, unless, writer_rows, written, later_output}
 use Rattle.meaning.proofs.RoundTrip.{round_trip}
 use Rattle.writer.proofs.Numbers.{length-pairs_of, cut_short}
 use Rattle.writer.proofs.Answers.{one_said}
@@ -31,15 +31,15 @@ early a (row n none ∷ before) i after b = early a before i after b.1
 
 module _ (arities numbers output : List ℕ) (lacks : length numbers % 3 ≡ 0 → ⊥) where
   abbrev pairs : List Pair
-  pairs = pairsOf numbers
+  pairs = pairs_of numbers
 
   -- the last pair may not be listed
-  bad : badPair arities pairs (length numbers / 3) ≡ false → ⊥
+  bad : bad_pair_lem arities pairs (length numbers / 3) ≡ false → ⊥
   bad e = false≢true (inv (both_false _ (unordered pairs (length numbers / 3)) e).0 ∙ cut_short arities numbers (length numbers / 3) (omega arith))
 
   refused_early : Early (written arities pairs output)
   unfolding written writer_rows row2 row3 row4
-  refused_early = go (leastBelow (length pairs) (badPair arities pairs)) refl
+  refused_early = go (least_below (length pairs) (bad_pair_lem arities pairs)) refl
     where
       before : List Row
       before = row2 (length arities) (length pairs) ∷ row3 arities ∷ []
@@ -47,17 +47,17 @@ module _ (arities numbers output : List ℕ) (lacks : length numbers % 3 ≡ 0 �
       after : List Row
       after = row8-output (total (length arities) (length pairs)) output ∷ []
 
-      go : (o : Option ℕ) → leastBelow (length pairs) (badPair arities pairs) ≡ o → Early (unless (first (before ++ (row 4 o ∷ after))) (total (length arities) (length pairs)))
+      go : (o : Option ℕ) → least_below (length pairs) (bad_pair_lem arities pairs) ≡ o → Early (unless (first (before ++ (row 4 o ∷ after))) (total (length arities) (length pairs)))
       go (just i) q = early (total (length arities) (length pairs)) before i after ((omega arith, omega arith), ((omega arith, omega arith), tt))
-      go none q = absurd (bad (least-none (length pairs) (badPair arities pairs) q (length numbers / 3) (omega (arith, length-pairs_of numbers, lacks))))
+      go none q = absurd (bad (least-none (length pairs) (bad_pair_lem arities pairs) q (length numbers / 3) (omega (arith, length-pairs_of numbers, lacks))))
 
 module _ (C : Calls) (k : Kept C) where
-  as_records : (arities numbers output : List ℕ) → C.write_table_lem arities numbers output ≡ C.write_records_lem arities (records_of (pairsOf numbers)) output
+  as_records : (arities numbers output : List ℕ) → C.write_table_lem arities numbers output ≡ C.write_records_lem arities (records_of (pairs_of numbers)) output
   as_records arities numbers output =
       let p = k.write_table_lem-is arities numbers output in
-      let q = k.write_records_lem-is arities (records_of (pairsOf numbers)) output in
-      let e = ap (λ pairs. written arities pairs output) (records_list (pairsOf numbers)) in
-      let f = ap (λ pairs. laterOutput arities pairs output) (records_list (pairsOf numbers)) in
+      let q = k.write_records_lem-is arities (records_of (pairs_of numbers)) output in
+      let e = ap (λ pairs. written arities pairs output) (records_list (pairs_of numbers)) in
+      let f = ap (λ pairs. later_output arities pairs output) (records_list (pairs_of numbers)) in
       ap₂ (λ w l. record { writing = w; output = l }) (one_said _ _ (p.answers ∙ inv (q.answers ∙ e))) (p.leaves ∙ inv (q.leaves ∙ f))
 
   unfinished : (arities numbers output : List ℕ) → (length numbers % 3 ≡ 0 → ⊥) → RefusedEarly output (C.write_table_lem arities numbers output)
@@ -70,7 +70,7 @@ module _ (C : Calls) (k : Kept C) where
         from_two = e.2;
         to_four = e.3;
         answers = p.answers ∙ e.4;
-        leaves = p.leaves ∙ (round_trip.read_written arities (pairsOf numbers) output).refusal_leaves e.0 e.1 e.4;
+        leaves = p.leaves ∙ (round_trip.read_written arities (pairs_of numbers) output).refusal_leaves e.0 e.1 e.4;
       }
 
   -- THEOREM: whatever results the public promises allow, so it is with the writer on numbers

@@ -10,11 +10,11 @@ use Rattle.theory.specs.Least.{All}
 use Rattle.theory.specs.Table.{Table}
 use Rattle.theory.specs.Pairs.{Pair, pair}
 use Rattle.theory.proofs.Lemmas.{all_append}
-use Rattle.meaning.specs.Limits.{mostSymbols, mostPairs, spanWidth, variableCount, setWords}
-use Rattle.meaning.specs.File.{symbolCount, pairCount, tableIn, pairsOf}
-use Rattle.meaning.specs.Refusals.{outside, misplaced, row1_short, row1_offsets, row2, row3, row4, row5, row6, row7, row8, row8-output, row9, row10, row13, row14, tableRows}
-use Rattle.meaning.specs.Calls.{gives, Yes, aye, is_table_lem, symbol_rows, symbol_degree_lem, degree_rows, heading_degree, Degrees, degrees, inputRows, search_rows, match_rows, matched, later_spans, later_sets, writer_rows, written, laterOutput, back_rows, arity_back, pair_back}
-use Rattle.meaning.specs.Saved.{savedWords, row8-words, widen_rows, widened_count, later_words}
+use Rattle.meaning.specs.Limits.{most_symbols, most_pairs, span_width, variable_count, set_words_lem}
+use Rattle.meaning.specs.File.{symbol_count_lem, pair_count_lem, table_in, pairs_of}
+use Rattle.meaning.specs.Refusals.{outside, misplaced, row1_short, row1_offsets, row2, row3, row4, row5, row6, row7, row8, row8-output, row9, row10, row13, row14, table_rows}
+use Rattle.meaning.specs.Calls.{gives, Yes, aye, is_table_lem, symbol_rows, symbol_degree_lem, degree_rows, heading_degree, Degrees, degrees, input_rows, search_rows, match_rows, matched, later_spans, later_sets, writer_rows, written, later_output, back_rows, arity_back, pair_back}
+use Rattle.meaning.specs.Saved.{saved_words, row8-words, widen_rows, widened_count, later_words}
 use Rattle.refusal.specs.Told.{told}
 use Rattle.refusal.specs.declared.Refusal.TheVariants.{Layout, Counts, Arity as HighArity, Pair as BadPair, Cut, Pattern, Heading, Room, Clash, NoForm, NoSymbol, Absent}
 use Rattle.writer.specs.Said.{said}
@@ -44,14 +44,14 @@ use Rattle.demands.proofs.PossibleHeading.{record_met}
 
 counts_said : (s p : ℕ) → Sayable told (row2 s p)
 unfolding row2
-counts_said s p = zero-said told 2 (outside 1 mostSymbols s || outside 0 mostPairs p) Counts refl
+counts_said s p = zero-said told 2 (outside 1 most_symbols s || outside 0 most_pairs p) Counts refl
 
 room_said : (n : ℕ) (output : List ℕ) → Sayable told (row8-output n output)
 unfolding row8-output
 room_said n output = zero-said told 8 (ltb (length output) n) Room refl
 
-table_said : (table : List ℕ) → All (Sayable told) (tableRows table)
-unfolding tableRows row1_short row1_offsets row3 row4
+table_said : (table : List ℕ) → All (Sayable told) (table_rows table)
+unfolding table_rows row1_short row1_offsets row3 row4
 table_said table = (
   zero-said told 1 (ltb (length table) 10) Layout refl,
   (counts_said _ _, (zero-said told 1 (misplaced table) Layout refl, (placed_said told 3 _ HighArity (λ i. refl), (placed_said told 4 _ BadPair (λ i. refl), tt)))),
@@ -68,8 +68,8 @@ seven T list = placed_said told 7 _ Heading (λ i. refl)
 -- ---- call by call
 
 table_met : (table : List ℕ) → (r : TableAnswer) × (said_table r ≡ is_table_lem table)
-unfolding is_table_lem tableRows
-table_met table = sayable told said_table (λ a. IsOne) NoTable yes_said (λ why. refl) (tableRows table) (table_said table) aye
+unfolding is_table_lem table_rows
+table_met table = sayable told said_table (λ a. IsOne) NoTable yes_said (λ why. refl) (table_rows table) (table_said table) aye
   where
     yes_said : (a : Yes) → said_table IsOne ≡ gives a
     yes_said aye = refl
@@ -77,24 +77,24 @@ table_met table = sayable told said_table (λ a. IsOne) NoTable yes_said (λ why
 symbol_met : (table : List ℕ) (a b : ℕ) → (r : DegreeAnswer) × (said_degree r ≡ symbol_degree_lem table a b)
 unfolding symbol_degree_lem symbol_rows row13
 symbol_met table a b =
-    sayable told said_degree Degree NoDegree (λ n. refl) (λ why. refl) (symbol_rows table a b) (all_append (Sayable told) (tableRows table) _ (table_said table) (placed_said told 13 _ NoSymbol (λ i. refl), tt)) ((tableIn table).deg a b)
+    sayable told said_degree Degree NoDegree (λ n. refl) (λ why. refl) (symbol_rows table a b) (all_append (Sayable told) (table_rows table) _ (table_said table) (placed_said told 13 _ NoSymbol (λ i. refl), tt)) ((table_in table).deg a b)
 
 heading_met : (table one two : List ℕ) → (r : DegreeAnswer) × (said_degree r ≡ heading_degree table one two)
 unfolding heading_degree degree_rows
 heading_met table one two =
     sayable told said_degree Degree NoDegree (λ n. refl) (λ why. refl) (degree_rows table one two)
-    (all_append (Sayable told) (tableRows table) _ (table_said table) (six (tableIn table) false one, (seven (tableIn table) two, tt))) _
+    (all_append (Sayable told) (table_rows table) _ (table_said table) (six (table_in table) false one, (seven (table_in table) two, tt))) _
 
-input_said : (table pattern heading : List ℕ) (cut : ℕ) (spans sets : List ℕ) → All (Sayable told) (inputRows table pattern heading cut spans sets)
-unfolding inputRows row5 row8
+input_said : (table pattern heading : List ℕ) (cut : ℕ) (spans sets : List ℕ) → All (Sayable told) (input_rows table pattern heading cut spans sets)
+unfolding input_rows row5 row8
 input_said table pattern heading cut spans sets =
-    all_append (Sayable told) (tableRows table) _ (table_said table) (
+    all_append (Sayable told) (table_rows table) _ (table_said table) (
       zero-said told 5 (outside 1 1000 cut) Cut refl,
       (
-        six (tableIn table) true pattern,
+        six (table_in table) true pattern,
         (
-          seven (tableIn table) heading,
-          (zero-said told 8 (ltb (length spans) (spanWidth * variableCount) || ltb (length sets) (setWords * length heading)) Room refl, tt),
+          seven (table_in table) heading,
+          (zero-said told 8 (ltb (length spans) (span_width * variable_count) || ltb (length sets) (set_words_lem * length heading)) Room refl, tt),
         ),
       ),
     )
@@ -107,7 +107,7 @@ match_met : (table pattern heading : List ℕ) (cut : ℕ) (spans sets : List �
 unfolding matched match_rows
 match_met table pattern heading cut spans sets =
     sayable told said_match outcome_for NoMatch outcome_said (λ why. refl) (match_rows table pattern heading cut spans sets)
-    (all_append (Sayable told) (inputRows table pattern heading cut spans sets) _ (input_said table pattern heading cut spans sets) (search_said table pattern heading cut)) _
+    (all_append (Sayable told) (input_rows table pattern heading cut spans sets) _ (input_said table pattern heading cut spans sets) (search_said table pattern heading cut)) _
   where
     outcome_for : Degrees → Outcome
     outcome_for (degrees low high) = Match low high
@@ -123,15 +123,15 @@ writer_met arities pairs output =
 
 back_said : (table : List ℕ) (index count : ℕ) → All (Sayable told) (back_rows table index count)
 unfolding back_rows row14
-back_said table index count = all_append (Sayable told) (tableRows table) _ (table_said table) (zero-said told 14 (not (ltb index count)) Absent refl, tt)
+back_said table index count = all_append (Sayable told) (table_rows table) _ (table_said table) (zero-said told 14 (not (ltb index count)) Absent refl, tt)
 
 arity_met : (table : List ℕ) (a : ℕ) → (r : ArityAnswer) × (said_arity r ≡ arity_back table a)
 unfolding arity_back
-arity_met table a = sayable told said_arity Arity NoArity (λ n. refl) (λ why. refl) (back_rows table a (symbolCount table)) (back_said table a (symbolCount table)) _
+arity_met table a = sayable told said_arity Arity NoArity (λ n. refl) (λ why. refl) (back_rows table a (symbol_count_lem table)) (back_said table a (symbol_count_lem table)) _
 
 pair_met : (table : List ℕ) (k : ℕ) → (r : PairAnswer) × (said_pair r ≡ pair_back table k)
 unfolding pair_back
-pair_met table k = sayable told said_pair (λ p. Listed (record_of p)) NoPair record_said (λ why. refl) (back_rows table k (pairCount table)) (back_said table k (pairCount table)) _
+pair_met table k = sayable told said_pair (λ p. Listed (record_of p)) NoPair record_said (λ why. refl) (back_rows table k (pair_count_lem table)) (back_said table k (pair_count_lem table)) _
   where
     record_said : (p : Pair) → said_pair (Listed (record_of p)) ≡ gives p
     record_said (pair l h d) = refl
@@ -140,7 +140,7 @@ widen_met : (words output : List ℕ) → (r : Writing) × (said r ≡ widened_c
 unfolding widened_count widen_rows row8-words
 widen_met words output =
     sayable told said Written NotWritten (λ n. refl) (λ why. refl) (widen_rows words output)
-    (zero-said told 8 (not (eqb (length words % savedWords) 0)) Room refl, (room_said _ output, tt)) _
+    (zero-said told 8 (not (eqb (length words % saved_words) 0)) Room refl, (room_said _ output, tt)) _
 
 -- results that are all allowed
 pub some_calls : Calls
@@ -158,9 +158,9 @@ some_calls =
             sets = later_sets table pattern heading cut spans sets;
           };
       write_records_lem = λ arities records output.
-          record { writing = (writer_met arities (listed records) output).0; output = laterOutput arities (listed records) output };
+          record { writing = (writer_met arities (listed records) output).0; output = later_output arities (listed records) output };
       write_table_lem = λ arities numbers output.
-          record { writing = (writer_met arities (pairsOf numbers) output).0; output = laterOutput arities (pairsOf numbers) output };
+          record { writing = (writer_met arities (pairs_of numbers) output).0; output = later_output arities (pairs_of numbers) output };
       arity_of_lem = λ table a. (arity_met table a).0;
       pair_of = λ table k. (pair_met table k).0;
       widen = λ words output. record { writing = (widen_met words output).0; output = later_words words output };
@@ -181,7 +181,7 @@ kept =
       match = λ table pattern heading cut spans sets.
           record { answers = (match_met table pattern heading cut spans sets).1; spans_later = refl; sets_later = refl };
       write_records_lem-is = λ arities records output. record { answers = (writer_met arities (listed records) output).1; leaves = refl };
-      write_table_lem-is = λ arities numbers output. record { answers = (writer_met arities (pairsOf numbers) output).1; leaves = refl };
+      write_table_lem-is = λ arities numbers output. record { answers = (writer_met arities (pairs_of numbers) output).1; leaves = refl };
       arity_of_lem-is = λ table a. (arity_met table a).1;
       pair_of_lem = λ table k. (pair_met table k).1;
       widen = λ words output. record { answers = (widen_met words output).1; leaves = refl };

@@ -10,7 +10,7 @@ use Rattle.theory.specs.Least.{All, or_else}
 use Rattle.theory.proofs.Lemmas.{all_append}
 use Rattle.meaning.specs.Refusals.{refusal, row, row8-output}
 use Rattle.meaning.specs.Calls.{gives, Yes, aye}
-use Rattle.marc.specs.Frame.{frameRows, at_if}
+use Rattle.marc.specs.Frame.{frame_rows, at_if}
 use Rattle.marc.specs.Known.{Known, row19}
 use Rattle.marc.specs.Heading.{missing, field100, name_in, dates_in, row20, row21, row22, unlisted, heading_rows, headed}
 use Rattle.exchange.specs.Said.{told, said}
@@ -19,8 +19,8 @@ use Rattle.exchange.specs.declared.Headed.TheVariants.{Written, Refused}
 use Rattle.exchange.specs.declared.Fault.TheVariants.{List as ListFault, Room, Frame, NoField, NoName, UnlistedName, UnlistedDates}
 use Rattle.demands.proofs.Sayable.{Sayable, zero-said, placed_said, sayable}
 
-frame_said : (r : List ℕ) → All (Sayable told) (frameRows r)
-unfolding frameRows
+frame_said : (r : List ℕ) → All (Sayable told) (frame_rows r)
+unfolding frame_rows
 frame_said r = (seventeen _, (seventeen _, (seventeen _, (seventeen _, (seventeen _, (seventeen _, (seventeen _, tt)))))))
   where
     seventeen : (o : Option ℕ) → Sayable told (row 17 o)
@@ -38,7 +38,7 @@ rows_said r ks heading absent output = (
   placed_said told 19 _ ListFault (λ i. refl),
   (
     zero-said told 8 (ltb (length output) 3) Room refl,
-    all_append (Sayable told) (frameRows r) _ (frame_said r)
+    all_append (Sayable told) (frame_rows r) _ (frame_said r)
         (zero-said told 20 (missing (field100 r)) NoField refl, (zero-said told 21 (missing (name_in r)) NoName refl, (strings_said (unlisted ks (name_in r)) (unlisted ks (dates_in r)), tt))),
   ),
 )

@@ -3,7 +3,7 @@ use mathlib.Core.Path.{◌≡◌, refl, ap, ap₂, ◌∙◌}
 use mathlib.Core.List.{List, [], ◌∷◌}
 use Prim.Native.Nat.{ℕ}
 use Rattle.theory.specs.Pairs.{Pair, pair}
-use Rattle.meaning.specs.Calls.{matchCall}
+use Rattle.meaning.specs.Calls.{match_call}
 use Rattle.meaning.specs.Tables.{write_call}
 use Rattle.meaning.specs.Saved.{widen_call}
 use Rattle.records.specs.Records.{listed}
@@ -24,7 +24,7 @@ records_list (pair l h d ∷ pairs) = ap (λ ps. pair l h d ∷ ps) (records_lis
 
 module _ (C : Calls) (k : Kept C) where
   matches : (table pattern heading : List ℕ) (cut : ℕ) (spans sets : List ℕ)
-      → (program_of C).match table pattern heading cut spans sets ≡ matchCall table pattern heading cut spans sets
+      → (program_of C).match table pattern heading cut spans sets ≡ match_call table pattern heading cut spans sets
   matches table pattern heading cut spans sets =
       let p = k.match table pattern heading cut spans sets in
       λ i. record { answer = p.answers i; spans = p.spans_later i; sets = p.sets_later i }

@@ -13,7 +13,7 @@ use Rattle.meaning.specs.Calls.{refused, gives, aye}
 use Rattle.meaning.proofs.First.{Silent, unless_gives, unless_refused}
 use Rattle.meaning.proofs.Degrees.{symbol_degrees}
 use Rattle.meaning.proofs.TopCut.{same_heading}
-use Rattle.marc.specs.Frame.{frameRows}
+use Rattle.marc.specs.Frame.{frame_rows}
 use Rattle.marc.specs.Known.{Known, known_in, row19}
 use Rattle.marc.specs.Heading.{dates_in, row20, row21, row22, heading_rows, headed, heading_call}
 use Rattle.marc.specs.Reading.{DatesNode, FirstUnfit}
@@ -62,11 +62,11 @@ module _ (bytes : List ℕ) (ks : List Known) (heading absent : ℕ) (nodes : Li
   nineteen (row m none) rest place is none_has e = absurd (no_row 19 rest place none_has e)
 
   list_told : (place : ℕ) → headed bytes ks heading absent nodes ≡ refused 19 place ↔ FirstUnfit ks absent place
-  unfolding headed heading_rows row8-output frameRows row20 row21 row22
+  unfolding headed heading_rows row8-output frame_rows row20 row21 row22
   list_told place = (
     (λ e.
         let q = unless_refused (first (heading_rows bytes ks heading absent nodes)) aye 19 place e in
-        (first_unfit ks absent place).0 (nineteen (row19 ks absent) (row8-output 3 nodes ∷ (frameRows bytes ++ (row20 bytes ∷ row21 bytes ∷ row22 ks bytes ∷ []))) place refl refl q)),
+        (first_unfit ks absent place).0 (nineteen (row19 ks absent) (row8-output 3 nodes ∷ (frame_rows bytes ++ (row20 bytes ∷ row21 bytes ∷ row22 ks bytes ∷ []))) place refl refl q)),
     (λ f. rw ((first_unfit ks absent place).1 f)),
   )
 

@@ -11,11 +11,11 @@ use Rattle.theory.specs.Tree.{Term, Pattern, stands}
 use Rattle.theory.specs.Table.{Table, Lawful, Richer}
 use Rattle.theory.specs.Faces.{faces, facing}
 use Rattle.theory.proofs.Richer.{fine_richer, over_richer, near_richer, matcher_richer, highest_richer, own_highest_richer}
-use Rattle.meaning.specs.Limits.{setRoom, variableCount, spanWidth}
-use Rattle.meaning.specs.File.{tableIn}
+use Rattle.meaning.specs.Limits.{set_room, variable_count, span_width}
+use Rattle.meaning.specs.File.{table_in}
 use Rattle.meaning.specs.Refusals.{SoundFile}
 use Rattle.meaning.specs.Calls.{gives, Degrees, highest_in, Matched}
-use Rattle.meaning.specs.Buffers.{firstPosition, positionCount, ownHighest, holds}
+use Rattle.meaning.specs.Buffers.{first_position_lem, position_count_lem, own_highest_lem, holds}
 use Rattle.meaning.specs.Demands.{WritesTerm, WritesPattern, Only, Accepted, Found, Decides, Demand2 as MatchOf}
 use Rattle.meaning.specs.Matching.{InSpan}
 use Rattle.meaning.proofs.Matched.{ready}
@@ -27,14 +27,14 @@ use Rattle.demands.specs.Richer.{MatchersStay, StillAnswers, LosesNothing}
 use Rattle.demands.proofs.Stated.{Stated, answered_accepted}
 use Rattle.demands.proofs.PackedAlike.{counts_alike, starts_alike}
 
-module _ (table₁ table₂ pattern heading : List ℕ) (cut : ℕ) (spans₁ sets₁ spans₂ sets₂ : List ℕ) (r₁ r₂ : Matched) (more : Richer (tableIn table₁) (tableIn table₂))
+module _ (table₁ table₂ pattern heading : List ℕ) (cut : ℕ) (spans₁ sets₁ spans₂ sets₂ : List ℕ) (r₁ r₂ : Matched) (more : Richer (table_in table₁) (table_in table₂))
     (x₁ : Stated table₁ pattern heading cut spans₁ sets₁ r₁) (x₂ : Stated table₂ pattern heading cut spans₂ sets₂ r₂)
     (a₁ : Accepted table₁ pattern heading cut spans₁ sets₁) (a₂ : Accepted table₂ pattern heading cut spans₂ sets₂) where
   abbrev T : Table
-  T = tableIn table₁
+  T = table_in table₁
 
   abbrev R : Table
-  R = tableIn table₂
+  R = table_in table₂
 
   d₁ : MatchOf table₁ pattern heading cut r₁
   d₁ = x₁.decided a₁
@@ -96,27 +96,27 @@ module _ (table₁ table₂ pattern heading : List ℕ) (cut : ℕ) (spans₁ se
     given : DrawnBy T p r₁ σ
     given = (f₁.matchers σ).0 f₁.is_lowest.reached.1
 
-    past : (i : ℕ) → spanWidth * variableCount ≤ i → get_or r₁.spans i 0 ≡ get_or r₂.spans i 0
+    past : (i : ℕ) → span_width * variable_count ≤ i → get_or r₁.spans i 0 ≡ get_or r₂.spans i 0
     past i l = x₁.leaves.other_spans _ f₁.answered i l ∙ inv (x₂.leaves.other_spans _ f₂.answered i l)
 
-    counts : (v : ℕ) → positionCount r₁.spans v ≡ positionCount r₂.spans v
+    counts : (v : ℕ) → position_count_lem r₁.spans v ≡ position_count_lem r₂.spans v
     counts = counts_alike T R p r₁ r₂ σ given (drawn σ given) (m₁.packed _ f₁.answered) (m₂.packed _ f₂.answered) past
 
-    starts : (v : ℕ) → firstPosition r₁.spans v ≡ firstPosition r₂.spans v
+    starts : (v : ℕ) → first_position_lem r₁.spans v ≡ first_position_lem r₂.spans v
     starts = starts_alike T R p r₁ r₂ σ given (drawn σ given) (m₁.packed _ f₁.answered) (m₂.packed _ f₂.answered) past
 
-    own_highest_lem : (v : ℕ) → v < variableCount → ownHighest r₁.spans v ≤ ownHighest r₂.spans v
-    own_highest_lem v l = go (stands v p) refl
+    own_highest_lem-is : (v : ℕ) → v < variable_count → own_highest_lem r₁.spans v ≤ own_highest_lem r₂.spans v
+    own_highest_lem-is v l = go (stands v p) refl
       where
-        go : (b : Bool) → stands v p ≡ b → ownHighest r₁.spans v ≤ ownHighest r₂.spans v
-        go true s = own_highest_richer T R more L₁ L₂ cut p h v _ _ ((m₁.own_degrees _ _ f₁.answered).own_highest_lem v s) ((m₂.own_degrees _ _ f₂.answered).own_highest_lem v s)
+        go : (b : Bool) → stands v p ≡ b → own_highest_lem r₁.spans v ≤ own_highest_lem r₂.spans v
+        go true s = own_highest_richer T R more L₁ L₂ cut p h v _ _ ((m₁.own_degrees _ _ f₁.answered).own_highest_lem-is v s) ((m₂.own_degrees _ _ f₂.answered).own_highest_lem-is v s)
         go false s = omega (arith, ((m₁.packed _ f₁.answered).absent v l s).3)
 
-    lost : (v : ℕ) → v < variableCount → (position : ℕ) → InSpan r₁.spans v position → (x : ℕ) → x < setRoom
+    lost : (v : ℕ) → v < variable_count → (position : ℕ) → InSpan r₁.spans v position → (x : ℕ) → x < set_room
         → holds r₁.sets position x ≡ true → holds r₂.sets position x ≡ true
-    lost v l position i x small = go (position - firstPosition r₁.spans v) (omega (arith, i.0)) (omega (arith, i.0, starts v)) (stands v p) refl
+    lost v l position i x small = go (position - first_position_lem r₁.spans v) (omega (arith, i.0)) (omega (arith, i.0, starts v)) (stands v p) refl
       where
-        go : (k : ℕ) → firstPosition r₁.spans v + k ≡ position → firstPosition r₂.spans v + k ≡ position → (b : Bool) → stands v p ≡ b
+        go : (k : ℕ) → first_position_lem r₁.spans v + k ≡ position → first_position_lem r₂.spans v + k ≡ position → (b : Bool) → stands v p ≡ b
             → holds r₁.sets position x ≡ true → holds r₂.sets position x ≡ true
         go k at₁ at₂ false s q = absurd (omega (arith, i.0, i.1, ((m₁.packed _ f₁.answered).absent v l s).1))
         go k at₁ at₂ true s q =
@@ -133,7 +133,7 @@ module _ (table₁ table₂ pattern heading : List ℕ) (cut : ℕ) (spans₁ se
               omega (arith, ap highest_in f₁.answered, ap highest_in f₂.answered, highest_richer T R more L₁ L₂ cut p h _ _ f₁.is_highest f₂.is_highest);
           same_start = λ v l. starts v;
           same_count = λ v l. counts v;
-          own_highest_not_lower = own_highest_lem;
+          own_highest_not_lower = own_highest_lem-is;
           no_symbol_lost = lost;
           drawn = drawn;
         }
@@ -153,7 +153,7 @@ module _ (table₁ table₂ pattern heading : List ℕ) (cut : ℕ) (spans₁ se
       }
 
 -- THEOREM: with the same buffers, an answer stays one if the richer file is a table
-pub stays_answered : (table₁ table₂ pattern heading : List ℕ) (cut : ℕ) (spans sets : List ℕ) (r₁ r₂ : Matched) → Richer (tableIn table₁) (tableIn table₂) → SoundFile table₂
+pub stays_answered : (table₁ table₂ pattern heading : List ℕ) (cut : ℕ) (spans sets : List ℕ) (r₁ r₂ : Matched) → Richer (table_in table₁) (table_in table₂) → SoundFile table₂
     → Stated table₁ pattern heading cut spans sets r₁ → Stated table₂ pattern heading cut spans sets r₂
     → (d : Degrees) → r₁.answer ≡ gives d → (e : Degrees) × (r₂.answer ≡ gives e)
 stays_answered table₁ table₂ pattern heading cut spans sets r₁ r₂ more s₂ x₁ x₂ d e =

@@ -8,8 +8,8 @@ use native.Mathlib.Decide.{dec_lt}
 use native.Mathlib.Omega.{arith}
 use lib.ListN.{length, take, drop, take-append-drop}
 use Rattle.theory.specs.Pairs.{Pair}
-use Rattle.meaning.specs.File.{symbolCount, pairCount, total, file_of}
-use Rattle.meaning.specs.Refusals.{Refusal, refusal, Row, first, row14, tableRows}
+use Rattle.meaning.specs.File.{symbol_count_lem, pair_count_lem, total, file_of}
+use Rattle.meaning.specs.Refusals.{Refusal, refusal, Row, first, row14, table_rows}
 use Rattle.meaning.specs.Calls.{Answer, refused, gives, writer_rows, back_rows}
 use Rattle.meaning.specs.Demands.{Exactly}
 use Rattle.meaning.specs.Tables.{Wrote, Writes}
@@ -25,15 +25,15 @@ use Rattle.demands.proofs.Exact.{by_refusal, by_none, same_answer}
 
 -- two answers, refused alike where the table is, and alike at every index of one that is not
 back_alike : {A : Type 0} (table : List ℕ) (index count : ℕ) (a b : Answer A) → Exactly (back_rows table index count) a → Exactly (back_rows table index count) b
-    → (first (tableRows table) ≡ none → index < count → a ≡ b) → (first (tableRows table) ≡ none → count ≤ index → a ≡ b) → a ≡ b
+    → (first (table_rows table) ≡ none → index < count → a ≡ b) → (first (table_rows table) ≡ none → count ≤ index → a ≡ b) → a ≡ b
 unfolding back_rows
-back_alike table index count a b e f there past = go (first (tableRows table)) refl (dec_lt index count)
+back_alike table index count a b e f there past = go (first (table_rows table)) refl (dec_lt index count)
   where
-    go : (o : Option Refusal) → first (tableRows table) ≡ o → Dec (index < count) → a ≡ b
+    go : (o : Option Refusal) → first (table_rows table) ≡ o → Dec (index < count) → a ≡ b
     go none q (yes l) = there q l
     go none q (no m) = past q (omega arith)
     go (just (refusal n place)) q d =
-        let r = first_stays (tableRows table) (row14 index count ∷ []) n place q in
+        let r = first_stays (table_rows table) (row14 index count ∷ []) n place q in
         by_refusal (back_rows table index count) a e n place r ∙ inv (by_refusal (back_rows table index count) b f n place r)
 
 -- ---- what was written
@@ -96,13 +96,13 @@ words_fixed words output r e w =
 module _ (P Q : Program) (one : Demand1 P) (one' : Demand1 Q) (more : Further P) (more' : Further Q) where
   pub same_arity_of : (table : List ℕ) (symbol : ℕ) → P.arity_of_lem table symbol ≡ Q.arity_of_lem table symbol
   same_arity_of table symbol =
-      back_alike table symbol (symbolCount table) _ _ (one.arity_of_lem-is table symbol) (one'.arity_of_lem-is table symbol)
+      back_alike table symbol (symbol_count_lem table) _ _ (one.arity_of_lem-is table symbol) (one'.arity_of_lem-is table symbol)
       (λ q l. (more.reads_back table q).arity symbol l ∙ inv ((more'.reads_back table q).arity symbol l))
       (λ q l. (more.reads_back table q).no_symbol symbol l ∙ inv ((more'.reads_back table q).no_symbol symbol l))
 
   pub same_pair_of : (table : List ℕ) (index : ℕ) → P.pair_of table index ≡ Q.pair_of table index
   same_pair_of table index =
-      back_alike table index (pairCount table) _ _ (one.pair_of_lem table index) (one'.pair_of_lem table index)
+      back_alike table index (pair_count_lem table) _ _ (one.pair_of_lem table index) (one'.pair_of_lem table index)
       (λ q l. (more.reads_back table q).pair index l ∙ inv ((more'.reads_back table q).pair index l))
       (λ q l. (more.reads_back table q).no_pair index l ∙ inv ((more'.reads_back table q).no_pair index l))
 

@@ -20,7 +20,7 @@ use Rattle.headings.specs.Terms.{Nodes, IsPart, IsChosen}
 use Rattle.marc.specs.Known.{known_in}
 use Rattle.marc.specs.Heading.{heading_call}
 use Rattle.capi.specs.Answers.{coded, later, laterNumber}
-use Rattle.capi.specs.Tables.{lower_of, higher_of, degreeOf, ShxPair}
+use Rattle.capi.specs.Tables.{lower_of, higher_of, degree_of, ShxPair}
 use Rattle.capi.specs.Terms.{count_of, chosen}
 use Rattle.capi.specs.Matching.{ShxMatch}
 use Rattle.capi.specs.Writing.{ShxWriteTable}
@@ -158,7 +158,7 @@ module _ (C : CCalls) (one : Demand1 (program_of_c C)) (two : Demand2 (program_o
         answers = code_back r.code read _ is;
         leaves_lower = left_back r.code read lower_of _ _ is (λ n place e. (kept n place e).0);
         leaves_higher = left_back r.code read higher_of _ _ is (λ n place e. (kept n place e).1);
-        leaves_degree = left_back r.code read degreeOf _ _ is (λ n place e. (kept n place e).2);
+        leaves_degree = left_back r.code read degree_of _ _ is (λ n place e. (kept n place e).2);
       }
 
   writes : (arities : List ℕ) (records : List Record) (output : List ℕ)

@@ -19,11 +19,11 @@ use Rattle.theory.proofs.Lemmas.{and_true, and_left, and_right}
 use Rattle.theory.proofs.Corollaries.{one_lowest, one_highest}
 use Rattle.theory.proofs.Own.{one_lowest_for, one_highest_for}
 use Rattle.sets.proofs.Word.{word_is}
-use Rattle.meaning.specs.Limits.{word_bits, setWords, setRoom, variableCount, spanWidth}
-use Rattle.meaning.specs.File.{tableIn}
+use Rattle.meaning.specs.Limits.{word_bits, set_words_lem, set_room, variable_count, span_width}
+use Rattle.meaning.specs.File.{table_in}
 use Rattle.meaning.specs.Refusals.{Refusal, refusal, first}
-use Rattle.meaning.specs.Calls.{refused, gives, degrees, Matched, inputRows, search_rows, match_rows}
-use Rattle.meaning.specs.Buffers.{firstPosition, positionCount, ownLowest, ownHighest, bit, holds}
+use Rattle.meaning.specs.Calls.{refused, gives, degrees, Matched, input_rows, search_rows, match_rows}
+use Rattle.meaning.specs.Buffers.{first_position_lem, position_count_lem, own_lowest_lem, own_highest_lem, bit, holds}
 use Rattle.meaning.specs.Demands.{Accepted, Found}
 use Rattle.meaning.specs.Matching.{InSpan, Leaves}
 use Rattle.meaning.proofs.First.{append-none}
@@ -55,7 +55,7 @@ module _ (T : Table) (cut : ℕ) (p : Pattern) (h : Term) (pattern spans sets : 
       ∙ inv fs.answered
 
   -- numbers past the spans
-  past : (i : ℕ) → spanWidth * variableCount ≤ i → get_or r.spans i 0 ≡ get_or s.spans i 0
+  past : (i : ℕ) → span_width * variable_count ≤ i → get_or r.spans i 0 ≡ get_or s.spans i 0
   past i l = lr.other_spans _ fr.answered i l ∙ inv (ls.other_spans _ fs.answered i l)
 
   -- a substitution that can be drawn from both
@@ -68,51 +68,51 @@ module _ (T : Table) (cut : ℕ) (p : Pattern) (h : Term) (pattern spans sets : 
   in_s : DrawnBy T p s σ
   in_s = (fs.matchers σ).0 fr.is_lowest.reached.1
 
-  counts : (v : ℕ) → positionCount r.spans v ≡ positionCount s.spans v
+  counts : (v : ℕ) → position_count_lem r.spans v ≡ position_count_lem s.spans v
   counts = counts_alike T T p r s σ in_r in_s (mr.packed _ fr.answered) (ms.packed _ fs.answered) past
 
-  starts : (v : ℕ) → firstPosition r.spans v ≡ firstPosition s.spans v
+  starts : (v : ℕ) → first_position_lem r.spans v ≡ first_position_lem s.spans v
   starts = starts_alike T T p r s σ in_r in_s (mr.packed _ fr.answered) (ms.packed _ fs.answered) past
 
-  own_lowest_lem : (v : ℕ) → ownLowest r.spans v ≡ ownLowest s.spans v
-  own_lowest_lem v = go (dec_lt v variableCount) (stands v p) refl
+  own_lowest_lem-is : (v : ℕ) → own_lowest_lem r.spans v ≡ own_lowest_lem s.spans v
+  own_lowest_lem-is v = go (dec_lt v variable_count) (stands v p) refl
     where
-      go : Dec (v < variableCount) → (b : Bool) → stands v p ≡ b → ownLowest r.spans v ≡ ownLowest s.spans v
-      go (no m) b e = past (spanWidth * v + 2) (omega arith)
+      go : Dec (v < variable_count) → (b : Bool) → stands v p ≡ b → own_lowest_lem r.spans v ≡ own_lowest_lem s.spans v
+      go (no m) b e = past (span_width * v + 2) (omega arith)
       go (yes l) true e =
-          one_lowest_for T cut p h v _ _ ((mr.own_degrees _ _ fr.answered).own_lowest_lem v e) ((ms.own_degrees _ _ fs.answered).own_lowest_lem v e)
+          one_lowest_for T cut p h v _ _ ((mr.own_degrees _ _ fr.answered).own_lowest_lem-is v e) ((ms.own_degrees _ _ fs.answered).own_lowest_lem-is v e)
       go (yes l) false e = ((mr.packed _ fr.answered).absent v l e).2 ∙ inv ((ms.packed _ fs.answered).absent v l e).2
 
-  own_highest_lem : (v : ℕ) → ownHighest r.spans v ≡ ownHighest s.spans v
-  own_highest_lem v = go (dec_lt v variableCount) (stands v p) refl
+  own_highest_lem-is : (v : ℕ) → own_highest_lem r.spans v ≡ own_highest_lem s.spans v
+  own_highest_lem-is v = go (dec_lt v variable_count) (stands v p) refl
     where
-      go : Dec (v < variableCount) → (b : Bool) → stands v p ≡ b → ownHighest r.spans v ≡ ownHighest s.spans v
-      go (no m) b e = past (spanWidth * v + 3) (omega arith)
+      go : Dec (v < variable_count) → (b : Bool) → stands v p ≡ b → own_highest_lem r.spans v ≡ own_highest_lem s.spans v
+      go (no m) b e = past (span_width * v + 3) (omega arith)
       go (yes l) true e =
-          one_highest_for T cut p h v _ _ ((mr.own_degrees _ _ fr.answered).own_highest_lem v e) ((ms.own_degrees _ _ fs.answered).own_highest_lem v e)
+          one_highest_for T cut p h v _ _ ((mr.own_degrees _ _ fr.answered).own_highest_lem-is v e) ((ms.own_degrees _ _ fs.answered).own_highest_lem-is v e)
       go (yes l) false e = ((mr.packed _ fr.answered).absent v l e).3 ∙ inv ((ms.packed _ fs.answered).absent v l e).3
 
   pub span_numbers : (i : ℕ) → get_or r.spans i 0 ≡ get_or s.spans i 0
-  span_numbers i = go (i % spanWidth) refl
+  span_numbers i = go (i % span_width) refl
     where
-      go : (j : ℕ) → i % spanWidth ≡ j → get_or r.spans i 0 ≡ get_or s.spans i 0
-      go zero e = let q : i ≡ spanWidth * (i / spanWidth) = omega arith in rw q (starts (i / spanWidth))
-      go (suc zero) e = let q : i ≡ spanWidth * (i / spanWidth) + 1 = omega arith in rw q (counts (i / spanWidth))
-      go (suc (suc zero)) e = let q : i ≡ spanWidth * (i / spanWidth) + 2 = omega arith in rw q (own_lowest_lem (i / spanWidth))
-      go (suc (suc (suc zero))) e = let q : i ≡ spanWidth * (i / spanWidth) + 3 = omega arith in rw q (own_highest_lem (i / spanWidth))
+      go : (j : ℕ) → i % span_width ≡ j → get_or r.spans i 0 ≡ get_or s.spans i 0
+      go zero e = let q : i ≡ span_width * (i / span_width) = omega arith in rw q (starts (i / span_width))
+      go (suc zero) e = let q : i ≡ span_width * (i / span_width) + 1 = omega arith in rw q (counts (i / span_width))
+      go (suc (suc zero)) e = let q : i ≡ span_width * (i / span_width) + 2 = omega arith in rw q (own_lowest_lem-is (i / span_width))
+      go (suc (suc (suc zero))) e = let q : i ≡ span_width * (i / span_width) + 3 = omega arith in rw q (own_highest_lem-is (i / span_width))
       go (suc (suc (suc (suc j)))) e = absurd (omega arith)
 
   -- ---- the sets
 
   -- variable v has the position, as a test
   has : ℕ → ℕ → Bool
-  has position v = leb (firstPosition r.spans v) position && ltb position (firstPosition r.spans v + positionCount r.spans v)
+  has position v = leb (first_position_lem r.spans v) position && ltb position (first_position_lem r.spans v + position_count_lem r.spans v)
 
   in_span : (position v : ℕ) → has position v ≡ true → InSpan r.spans v position
   unfolding has
   in_span position v e =
-      let a = leb (firstPosition r.spans v) position in
-      let b = ltb position (firstPosition r.spans v + positionCount r.spans v) in
+      let a = leb (first_position_lem r.spans v) position in
+      let b = ltb position (first_position_lem r.spans v + position_count_lem r.spans v) in
       (leb-true _ _ (and_left a b e), ltb-true _ _ (and_right a b e))
 
   no_span : (position v : ℕ) → has position v ≡ false → InSpan r.spans v position → ⊥
@@ -120,10 +120,10 @@ module _ (T : Table) (cut : ℕ) (p : Pattern) (h : Term) (pattern spans sets : 
   no_span position v e i = false≢true (inv e ∙ and_true _ _ (le-leb _ _ i.0) (lt-ltb _ _ i.1))
 
   -- at a position of a variable both sets have the same symbols
-  same-holds : (position v : ℕ) → v < variableCount → InSpan r.spans v position → (x : ℕ) → x < setRoom → holds r.sets position x ≡ holds s.sets position x
-  same-holds position v l i x m = go (position - firstPosition r.spans v) (omega (arith, i.0)) (omega (arith, i.0, starts v)) (stands v p) refl
+  same-holds : (position v : ℕ) → v < variable_count → InSpan r.spans v position → (x : ℕ) → x < set_room → holds r.sets position x ≡ holds s.sets position x
+  same-holds position v l i x m = go (position - first_position_lem r.spans v) (omega (arith, i.0)) (omega (arith, i.0, starts v)) (stands v p) refl
     where
-      go : (k : ℕ) → firstPosition r.spans v + k ≡ position → firstPosition s.spans v + k ≡ position → (b : Bool) → stands v p ≡ b
+      go : (k : ℕ) → first_position_lem r.spans v + k ≡ position → first_position_lem s.spans v + k ≡ position → (b : Bool) → stands v p ≡ b
           → holds r.sets position x ≡ holds s.sets position x
       go k at-r at-s false e = absurd (omega (arith, i.0, i.1, ((mr.packed _ fr.answered).absent v l e).1))
       go k at-r at-s true e =
@@ -135,23 +135,23 @@ module _ (T : Table) (cut : ℕ) (p : Pattern) (h : Term) (pattern spans sets : 
 
   pub set_words : (i : ℕ) → get_or r.sets i 0 ≡ get_or s.sets i 0
   unfolding holds
-  set_words i = go (find variableCount (has (i / setWords)))
+  set_words i = go (find variable_count (has (i / set_words_lem)))
     where
       -- bit j of the word is one symbol's
-      same_bit : (v : ℕ) → v < variableCount → has (i / setWords) v ≡ true → (j : ℕ) → j < word_bits → bit j (get_or r.sets i 0) ≡ bit j (get_or s.sets i 0)
+      same_bit : (v : ℕ) → v < variable_count → has (i / set_words_lem) v ≡ true → (j : ℕ) → j < word_bits → bit j (get_or r.sets i 0) ≡ bit j (get_or s.sets i 0)
       same_bit v l t j m =
-          let x = word_bits * (i % setWords) + j in
-          let w : setWords * (i / setWords) + x / word_bits ≡ i = omega arith in
+          let x = word_bits * (i % set_words_lem) + j in
+          let w : set_words_lem * (i / set_words_lem) + x / word_bits ≡ i = omega arith in
           let b : x % word_bits ≡ j = omega arith in
-          let q : bit (x % word_bits) (get_or r.sets (setWords * (i / setWords) + x / word_bits) 0) ≡ bit (x % word_bits) (get_or s.sets (setWords * (i / setWords) + x / word_bits) 0)
-          = same-holds (i / setWords) v l (in_span (i / setWords) v t) x (omega arith) in
+          let q : bit (x % word_bits) (get_or r.sets (set_words_lem * (i / set_words_lem) + x / word_bits) 0) ≡ bit (x % word_bits) (get_or s.sets (set_words_lem * (i / set_words_lem) + x / word_bits) 0)
+          = same-holds (i / set_words_lem) v l (in_span (i / set_words_lem) v t) x (omega arith) in
           rw (w, b) at q
 
-      go : ((v : ℕ) × (v < variableCount) × (has (i / setWords) v ≡ true)) ⊎ ((v : ℕ) → v < variableCount → has (i / setWords) v ≡ false) → get_or r.sets i 0 ≡ get_or s.sets i 0
+      go : ((v : ℕ) × (v < variable_count) × (has (i / set_words_lem) v ≡ true)) ⊎ ((v : ℕ) → v < variable_count → has (i / set_words_lem) v ≡ false) → get_or r.sets i 0 ≡ get_or s.sets i 0
       go (inl f) = same_word _ _ (lr.words_fit _ fr.answered i) (ls.words_fit _ fs.answered i) (same_bit f.0 f.1 f.2)
       go (inr f) =
-          lr.other_sets _ fr.answered i (λ v l q. no_span (i / setWords) v (f v l) q)
-          ∙ inv (ls.other_sets _ fs.answered i (λ v l q. no_span (i / setWords) v (f v l) (omega (arith, starts v, q.0), omega (arith, starts v, counts v, q.1))))
+          lr.other_sets _ fr.answered i (λ v l q. no_span (i / set_words_lem) v (f v l) q)
+          ∙ inv (ls.other_sets _ fs.answered i (λ v l q. no_span (i / set_words_lem) v (f v l) (omega (arith, starts v, q.0), omega (arith, starts v, counts v, q.1))))
 
 -- ---- two results of one call
 
@@ -183,8 +183,8 @@ module _ (table pattern heading : List ℕ) (cut : ℕ) (spans sets : List ℕ) 
   answered_same : first (match_rows table pattern heading cut spans sets) ≡ none → Same r s
   unfolding match_rows
   answered_same q =
-      let T = tableIn table in
-      let a : Accepted table pattern heading cut spans sets = (append-none (inputRows table pattern heading cut spans sets) (search_rows table pattern heading cut) q).0 in
+      let T = table_in table in
+      let a : Accepted table pattern heading cut spans sets = (append-none (input_rows table pattern heading cut spans sets) (search_rows table pattern heading cut) q).0 in
       let m = x.decided a in
       let n = y.decided a in
       let gr = by_none (match_rows table pattern heading cut spans sets) r.answer x.exactly q in

@@ -5,9 +5,9 @@ use mathlib.Core.List.{List, [], ◌∷◌, ◌++◌}
 use Prim.Native.Nat.{ℕ}
 use Rattle.theory.specs.Pairs.{Pair}
 use Rattle.theory.specs.Read.{walk, several}
-use Rattle.meaning.specs.File.{aritiesIn, pairsIn, tableIn}
-use Rattle.meaning.specs.Refusals.{row1_short, row1_offsets, row2, row3, row4, row5, row6, row7, row8, tableRows}
-use Rattle.meaning.specs.Calls.{refused, gives, degrees, Matched, zeros, inputRows, written}
+use Rattle.meaning.specs.File.{arities_in, pairs_in, table_in}
+use Rattle.meaning.specs.Refusals.{row1_short, row1_offsets, row2, row3, row4, row5, row6, row7, row8, table_rows}
+use Rattle.meaning.specs.Calls.{refused, gives, degrees, Matched, zeros, input_rows, written}
 use Rattle.meaning.specs.Demands.{Demand2 as MatchOf}
 use Rattle.meaning.proofs.Examples.{T, arities, pairs, p, h}
 use Rattle.meaning.proofs.Wrong.{always_nine, always_same, writes_nothing, first_only, invented, writer_writes_nothing}
@@ -23,7 +23,7 @@ module _ (P : Program) where
 
   module _ (d : Demand2 P) where
     demanded : MatchOf T p h 500 (listed 500) × MatchOf T p h 601 (listed 601) × MatchOf T p h 700 (listed 700)
-    unfolding inputRows tableRows row1_short row1_offsets row2 row3 row4 row5 row6 row7 row8 tableIn aritiesIn pairsIn walk several
+    unfolding input_rows table_rows row1_short row1_offsets row2 row3 row4 row5 row6 row7 row8 table_in arities_in pairs_in walk several
     demanded = (
       d.match T p h 500 no_spans (no_sets 5) refl,
       d.match T p h 601 no_spans (no_sets 5) refl,

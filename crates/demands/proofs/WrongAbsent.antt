@@ -14,12 +14,12 @@ use Rattle.theory.specs.Tree.{Term, Pattern, enc, stands}
 use Rattle.theory.specs.Table.{Table}
 use Rattle.theory.specs.Read.{walk, several}
 use Rattle.theory.specs.Decode.{pattern_of, term_of, parse, parse_row}
-use Rattle.meaning.specs.Limits.{spanWidth}
-use Rattle.meaning.specs.File.{aritiesIn, pairsIn, tableIn}
-use Rattle.meaning.specs.Refusals.{row1_short, row1_offsets, row2, row3, row4, row5, row6, row7, row8, row9, row10, tableRows}
+use Rattle.meaning.specs.Limits.{span_width}
+use Rattle.meaning.specs.File.{arities_in, pairs_in, table_in}
+use Rattle.meaning.specs.Refusals.{row1_short, row1_offsets, row2, row3, row4, row5, row6, row7, row8, row9, row10, table_rows}
 use Rattle.meaning.specs.Packing.{packed_count, packed_spans}
-use Rattle.meaning.specs.Calls.{Answer, refused, gives, Degrees, degrees, Matched, facesIn, inputRows, search_rows, match_rows, matched, later_spans, matchCall}
-use Rattle.meaning.specs.Buffers.{firstPosition, positionCount, holds, DrawnFrom}
+use Rattle.meaning.specs.Calls.{Answer, refused, gives, Degrees, degrees, Matched, faces_in, input_rows, search_rows, match_rows, matched, later_spans, match_call}
+use Rattle.meaning.specs.Buffers.{first_position_lem, position_count_lem, holds, DrawnFrom}
 use Rattle.meaning.specs.Demands.{Found, Decides, Narrower, Accepted, Demand2 as MatchOf, Demand3 as CutsOf}
 use Rattle.meaning.proofs.Matched.{ready}
 use Rattle.meaning.proofs.Lengths.{lengths, rooms}
@@ -50,7 +50,7 @@ abbrev spoiled : Bool → Matched → Matched
 spoiled b r = record { answer = r.answer; spans = spoil r.answer b r.spans; sets = r.sets }
 
 abbrev pub absent : (table pattern heading : List ℕ) (cut : ℕ) (spans sets : List ℕ) → Matched
-absent table pattern heading cut spans sets = spoiled (stands 31 (pattern_of (tableIn table) pattern)) (matchCall table pattern heading cut spans sets)
+absent table pattern heading cut spans sets = spoiled (stands 31 (pattern_of (table_in table) pattern)) (match_call table pattern heading cut spans sets)
 
 -- ---- what is read of the variables that stand in the pattern is as it was
 
@@ -64,17 +64,17 @@ standing_kept (gives d) xs = refl
 standing_kept (refused n place) xs = refl
 
 module _ (p : Pattern) (a : Answer Degrees) (xs : List ℕ) where
-  reads : (v : ℕ) → stands v p ≡ true → (firstPosition (spoil a (stands 31 p) xs) v ≡ firstPosition xs v) × (positionCount (spoil a (stands 31 p) xs) v ≡ positionCount xs v)
+  reads : (v : ℕ) → stands v p ≡ true → (first_position_lem (spoil a (stands 31 p) xs) v ≡ first_position_lem xs v) × (position_count_lem (spoil a (stands 31 p) xs) v ≡ position_count_lem xs v)
   reads v s = go (stands 31 p) refl
     where
-      go : (b : Bool) → stands 31 p ≡ b → (firstPosition (spoil a b xs) v ≡ firstPosition xs v) × (positionCount (spoil a b xs) v ≡ positionCount xs v)
-      go true e = let q = standing_kept a xs in (ap (λ l. firstPosition l v) q, ap (λ l. positionCount l v) q)
+      go : (b : Bool) → stands 31 p ≡ b → (first_position_lem (spoil a b xs) v ≡ first_position_lem xs v) × (position_count_lem (spoil a b xs) v ≡ position_count_lem xs v)
+      go true e = let q = standing_kept a xs in (ap (λ l. first_position_lem l v) q, ap (λ l. position_count_lem l v) q)
       go false e =
           let n : v ≡ 31 → ⊥ = λ q. false≢true (inv e ∙ subst (λ n. stands n p ≡ true) q s) in
-          (other_numbers a false xs (spanWidth * v) (λ q. n (omega arith)) (λ q. omega arith), other_numbers a false xs (spanWidth * v + 1) (λ q. omega arith) (λ q. n (omega arith)))
+          (other_numbers a false xs (span_width * v) (λ q. n (omega arith)) (λ q. omega arith), other_numbers a false xs (span_width * v + 1) (λ q. omega arith) (λ q. n (omega arith)))
 
 module _ (T : Table) (cut : ℕ) (p : Pattern) (h : Term) (r : Matched) where
-  drawn : (xs ys : List ℕ) (v : ℕ) (t : Term) → (firstPosition xs v ≡ firstPosition ys v) × (positionCount xs v ≡ positionCount ys v)
+  drawn : (xs ys : List ℕ) (v : ℕ) (t : Term) → (first_position_lem xs v ≡ first_position_lem ys v) × (position_count_lem xs v ≡ position_count_lem ys v)
       → DrawnFrom T xs r.sets v t → DrawnFrom T ys r.sets v t
   drawn xs ys v t e d =
       record { over = d.over; as_many = d.as_many ∙ e.1; symbols = λ k l. subst (λ n. holds r.sets (n + k) (get_or (enc t) k 0) ≡ true) e.0 (d.symbols k l) }
@@ -125,11 +125,11 @@ module _ (xs ys : List ℕ) (lx : 128 ≤ length xs) (ly : 128 ≤ length ys) (i
       go false = alike
 
 -- an answered match has room for the spans
-long : (t p h : List ℕ) (c : ℕ) (sp se : List ℕ) (x : Degrees) → (matchCall t p h c sp se).answer ≡ gives x → 128 ≤ length (matchCall t p h c sp se).spans
+long : (t p h : List ℕ) (c : ℕ) (sp se : List ℕ) (x : Degrees) → (match_call t p h c sp se).answer ≡ gives x → 128 ≤ length (match_call t p h c sp se).spans
 long t p h c sp se x e = omega (arith, lengths.of_spans t p h c sp se, (rooms t p h c sp se (answered_none t p h c sp se x e)).0)
 
-narrower_spoiled : (t p h : List ℕ) (c : ℕ) (sp se : List ℕ) (c' : ℕ) (sp' se' : List ℕ) (l g : ℕ) → (matchCall t p h c' sp' se').answer ≡ gives (degrees l g)
-    → Narrower c' (matchCall t p h c sp se) (matchCall t p h c' sp' se') l g → Narrower c' (absent t p h c sp se) (absent t p h c' sp' se') l g
+narrower_spoiled : (t p h : List ℕ) (c : ℕ) (sp se : List ℕ) (c' : ℕ) (sp' se' : List ℕ) (l g : ℕ) → (match_call t p h c' sp' se').answer ≡ gives (degrees l g)
+    → Narrower c' (match_call t p h c sp se) (match_call t p h c' sp' se') l g → Narrower c' (absent t p h c sp se) (absent t p h c' sp' se') l g
 narrower_spoiled t p h c sp se c' sp' se' l g e n =
     record {
       low₁ = n.low₁;
@@ -137,16 +137,16 @@ narrower_spoiled t p h c sp se c' sp' se' l g e n =
       first_answers = n.first_answers;
       reaches = n.reaches;
       inside = n.inside;
-      same_start = λ v m. same (spanWidth * v) (n.same_start v m);
-      same_count = λ v m. same (spanWidth * v + 1) (n.same_count v m);
+      same_start = λ v m. same (span_width * v) (n.same_start v m);
+      same_count = λ v m. same (span_width * v + 1) (n.same_count v m);
       same-highest = n.same-highest;
-      same_own_highest = λ v m. same (spanWidth * v + 3) (n.same_own_highest v m);
+      same_own_highest = λ v m. same (span_width * v + 3) (n.same_own_highest v m);
     }
   where
-    same : (i : ℕ) → get_or (matchCall t p h c' sp' se').spans i 0 ≡ get_or (matchCall t p h c sp se).spans i 0 → get_or (absent t p h c' sp' se').spans i 0 ≡ get_or (absent t p h c sp se).spans i 0
+    same : (i : ℕ) → get_or (match_call t p h c' sp' se').spans i 0 ≡ get_or (match_call t p h c sp se).spans i 0 → get_or (absent t p h c' sp' se').spans i 0 ≡ get_or (absent t p h c sp se).spans i 0
     same i q =
-        spoiled_alike (matchCall t p h c' sp' se').spans (matchCall t p h c sp se).spans (long t p h c' sp' se' _ e) (long t p h c sp se _ n.first_answers) i q _ _
-        (degrees l g) (degrees n.low₁ n.high₁) (stands 31 (pattern_of (tableIn t) p)) e n.first_answers
+        spoiled_alike (match_call t p h c' sp' se').spans (match_call t p h c sp se).spans (long t p h c' sp' se' _ e) (long t p h c sp se _ n.first_answers) i q _ _
+        (degrees l g) (degrees n.low₁ n.high₁) (stands 31 (pattern_of (table_in t) p)) e n.first_answers
 
 absent_two : (H : Handing) → Demand2 (with_match H absent)
 absent_two H = record { degree = (demand2 H).degree; match = of_match }
@@ -154,13 +154,13 @@ absent_two H = record { degree = (demand2 H).degree; match = of_match }
     of_match : (t p h : List ℕ) (c : ℕ) (sp se : List ℕ) → Accepted t p h c sp se → MatchOf t p h c (absent t p h c sp se)
     of_match t p h c sp se a =
         let d = (demand2 H).match t p h c sp se a in
-        let e = d.writes_pattern.only (pattern_of (tableIn t) p) (ready t p h c sp se a).pattern_is.holds in
+        let e = d.writes_pattern.only (pattern_of (table_in t) p) (ready t p h c sp se a).pattern_is.holds in
         record {
           p = d.p;
           h = d.h;
           writes_pattern = d.writes_pattern;
           writes_heading = d.writes_heading;
-          decides = rw e (decides_spoiled (tableIn t) c d.p d.h (matchCall t p h c sp se) d.decides);
+          decides = rw e (decides_spoiled (table_in t) c d.p d.h (match_call t p h c sp se) d.decides);
         }
 
 -- THEOREM: demands 2 and 3 allow it
@@ -184,9 +184,9 @@ absent_meets H = (absent_two H, by_cuts (with_match H absent) (absent_two H) of_
         }
 
 -- at the listing's question it has counted 3 for variable 31
-counted : ((absent T p h 500 no_spans (no_sets 5)).answer ≡ gives (degrees 500 700)) × (positionCount (absent T p h 500 no_spans (no_sets 5)).spans 31 ≡ 3)
+counted : ((absent T p h 500 no_spans (no_sets 5)).answer ≡ gives (degrees 500 700)) × (position_count_lem (absent T p h 500 no_spans (no_sets 5)).spans 31 ≡ 3)
 unfolding
-    matched later_spans match_rows inputRows search_rows facesIn packed_count packed_spans tableRows row1_short row1_offsets row2 row3 row4 row5 row6 row7 row8 row9 row10 tableIn aritiesIn pairsIn pattern_of
+    matched later_spans match_rows input_rows search_rows faces_in packed_count packed_spans table_rows row1_short row1_offsets row2 row3 row4 row5 row6 row7 row8 row9 row10 table_in arities_in pairs_in pattern_of
     term_of parse parse_row walk several
 counted = (refl, refl)
 
@@ -198,4 +198,4 @@ absent_fails P w f =
     let e = w T p h 500 no_spans (no_sets 5) in
     let s = f.matches T p h 500 no_spans (no_sets 5) met2.1 pattern_tree writes-P heading_tree writes-H in
     let q = ((s.packed (degrees 500 700) (ap (λ r. r.answer) e ∙ counted.0)).absent 31 (lit< tt) refl).1 in
-    omega (arith, q, ap (λ r. positionCount r.spans 31) e, counted.1)
+    omega (arith, q, ap (λ r. position_count_lem r.spans 31) e, counted.1)

@@ -15,11 +15,11 @@ use Rattle.theory.specs.Least.{every}
 use Rattle.theory.specs.Read.{walk, several}
 use Rattle.theory.specs.Decode.{pattern_of, term_of, parse, parse_row}
 use Rattle.theory.proofs.Lemmas.{every-at}
-use Rattle.meaning.specs.File.{aritiesIn, pairsIn, tableIn}
-use Rattle.meaning.specs.Refusals.{row1_short, row1_offsets, row2, row3, row4, row5, row6, row7, row8, row9, row10, tableRows}
+use Rattle.meaning.specs.File.{arities_in, pairs_in, table_in}
+use Rattle.meaning.specs.Refusals.{row1_short, row1_offsets, row2, row3, row4, row5, row6, row7, row8, row9, row10, table_rows}
 use Rattle.meaning.specs.Packing.{packed_count, packed_spans, packed_sets}
-use Rattle.meaning.specs.Calls.{Matched, facesIn, inputRows, search_rows, match_rows, matched, later_spans, later_sets, matchCall}
-use Rattle.meaning.specs.Buffers.{firstPosition, positionCount, holds, DrawnFrom}
+use Rattle.meaning.specs.Calls.{Matched, faces_in, input_rows, search_rows, match_rows, matched, later_spans, later_sets, match_call}
+use Rattle.meaning.specs.Buffers.{first_position_lem, position_count_lem, holds, DrawnFrom}
 use Rattle.meaning.specs.Demands.{Found, Decides, Demand2 as MatchOf}
 use Rattle.meaning.proofs.Matched.{demand2}
 use Rattle.meaning.proofs.Examples.{T}
@@ -30,9 +30,9 @@ use Rattle.demands.proofs.Lent.{no_spans, no_sets, image}
 abbrev right : Matched
 right = gave (1 ∷ 1 ∷ 500 ∷ 1000 ∷ 0 ∷ 1 ∷ 500 ∷ 1000 ∷ []) (image 224 ++ image 224)
 
-is_right : matchCall T pattern heading 500 no_spans (no_sets 3) ≡ right
+is_right : match_call T pattern heading 500 no_spans (no_sets 3) ≡ right
 unfolding
-    matched later_spans later_sets match_rows inputRows search_rows facesIn packed_count packed_spans packed_sets tableRows row1_short row1_offsets row2 row3 row4 row5 row6 row7 row8 row9 row10 tableIn aritiesIn pairsIn
+    matched later_spans later_sets match_rows input_rows search_rows faces_in packed_count packed_spans packed_sets table_rows row1_short row1_offsets row2 row3 row4 row5 row6 row7 row8 row9 row10 table_in arities_in pairs_in
     pattern_of term_of parse parse_row walk several
 is_right = refl
 
@@ -52,31 +52,31 @@ agreed false false e = refl
 
 -- variable v has one position in both, and the same symbols of T may stand there
 pub record Alike (r s : Matched) (v : ℕ) : Type 0 where
-  pub one : positionCount r.spans v ≡ 1
-  pub other : positionCount s.spans v ≡ 1
-  pub symbols : every 8 (λ x. agree (holds r.sets (firstPosition r.spans v + 0) x) (holds s.sets (firstPosition s.spans v + 0) x)) ≡ true
+  pub one : position_count_lem r.spans v ≡ 1
+  pub other : position_count_lem s.spans v ≡ 1
+  pub symbols : every 8 (λ x. agree (holds r.sets (first_position_lem r.spans v + 0) x) (holds s.sets (first_position_lem s.spans v + 0) x)) ≡ true
 
-small : (f : ℕ) (ts : Terms) → Over (tableIn T) (node f ts) → f < 8
-unfolding tableIn aritiesIn
+small : (f : ℕ) (ts : Terms) → Over (table_in T) (node f ts) → f < 8
+unfolding table_in arities_in
 small f ts o = o.0
 
-drawn_alike : (r s : Matched) (v : ℕ) → Alike r s v → (t : Term) → DrawnFrom (tableIn T) r.spans r.sets v t ↔ DrawnFrom (tableIn T) s.spans s.sets v t
+drawn_alike : (r s : Matched) (v : ℕ) → Alike r s v → (t : Term) → DrawnFrom (table_in T) r.spans r.sets v t ↔ DrawnFrom (table_in T) s.spans s.sets v t
 drawn_alike r s v a (node f ts) = (
   (λ d. record { over = d.over; as_many = d.as_many ∙ a.one ∙ inv a.other; symbols = there d }),
   (λ d. record { over = d.over; as_many = d.as_many ∙ a.other ∙ inv a.one; symbols = back d }),
 )
   where
-    at : f < 8 → holds r.sets (firstPosition r.spans v + 0) f ≡ holds s.sets (firstPosition s.spans v + 0) f
+    at : f < 8 → holds r.sets (first_position_lem r.spans v + 0) f ≡ holds s.sets (first_position_lem s.spans v + 0) f
     at l =
-        let b = holds r.sets (firstPosition r.spans v + 0) in
-        let c = holds s.sets (firstPosition s.spans v + 0) in
+        let b = holds r.sets (first_position_lem r.spans v + 0) in
+        let c = holds s.sets (first_position_lem s.spans v + 0) in
         agreed (b f) (c f) (every-at 8 (λ x. agree (b x) (c x)) a.symbols f l)
 
-    there : DrawnFrom (tableIn T) r.spans r.sets v (node f ts) → (k : ℕ) → k < length (enc (node f ts)) → holds s.sets (firstPosition s.spans v + k) (get_or (enc (node f ts)) k 0) ≡ true
+    there : DrawnFrom (table_in T) r.spans r.sets v (node f ts) → (k : ℕ) → k < length (enc (node f ts)) → holds s.sets (first_position_lem s.spans v + k) (get_or (enc (node f ts)) k 0) ≡ true
     there d zero l = inv (at (small f ts d.over)) ∙ d.symbols 0 l
     there d (suc k) l = absurd (omega (arith, d.as_many, a.one))
 
-    back : DrawnFrom (tableIn T) s.spans s.sets v (node f ts) → (k : ℕ) → k < length (enc (node f ts)) → holds r.sets (firstPosition r.spans v + k) (get_or (enc (node f ts)) k 0) ≡ true
+    back : DrawnFrom (table_in T) s.spans s.sets v (node f ts) → (k : ℕ) → k < length (enc (node f ts)) → holds r.sets (first_position_lem r.spans v + k) (get_or (enc (node f ts)) k 0) ≡ true
     back d zero l = at (small f ts d.over) ∙ d.symbols 0 l
     back d (suc k) l = absurd (omega (arith, d.as_many, a.other))
 
@@ -97,14 +97,14 @@ module _ (other : Matched) (x0 : Alike right other 0) (x1 : Alike right other 1)
   abbrev r : Matched
   r = buffers other
 
-  same : (v : ℕ) → stands v pattern_tree ≡ true → (t : Term) → DrawnFrom (tableIn T) right.spans right.sets v t ↔ DrawnFrom (tableIn T) r.spans r.sets v t
+  same : (v : ℕ) → stands v pattern_tree ≡ true → (t : Term) → DrawnFrom (table_in T) right.spans right.sets v t ↔ DrawnFrom (table_in T) r.spans r.sets v t
   same v s t = go (which v s)
     where
-      go : (v ≡ 0) ⊎ (v ≡ 1) → DrawnFrom (tableIn T) right.spans right.sets v t ↔ DrawnFrom (tableIn T) r.spans r.sets v t
+      go : (v ≡ 0) ⊎ (v ≡ 1) → DrawnFrom (table_in T) right.spans right.sets v t ↔ DrawnFrom (table_in T) r.spans r.sets v t
       go (inl e) = rw e (drawn_alike right other 0 x0 t)
       go (inr e) = rw e (drawn_alike right other 1 x1 t)
 
-  found : (h : Term) → Found (tableIn T) 500 pattern_tree h right → Found (tableIn T) 500 pattern_tree h r
+  found : (h : Term) → Found (table_in T) 500 pattern_tree h right → Found (table_in T) 500 pattern_tree h r
   found h f =
       record {
         lowest = f.lowest;
@@ -115,7 +115,7 @@ module _ (other : Matched) (x0 : Alike right other 0) (x1 : Alike right other 1)
         matchers = λ σ. ((λ m v s. (same v s (σ v)).0 ((f.matchers σ).0 m v s)), (λ d. (f.matchers σ).1 (λ v s. (same v s (σ v)).1 (d v s))));
       }
 
-  decides : (h : Term) → Decides (tableIn T) 500 pattern_tree h right → Decides (tableIn T) 500 pattern_tree h r
+  decides : (h : Term) → Decides (table_in T) 500 pattern_tree h right → Decides (table_in T) 500 pattern_tree h r
   decides h d = record { no_match = d.no_match; otherwise = λ k. found h (d.otherwise k) }
 
   allowed : MatchOf T pattern heading 500 r
@@ -127,7 +127,7 @@ module _ (other : Matched) (x0 : Alike right other 0) (x1 : Alike right other 1)
         h = m.h;
         writes_pattern = m.writes_pattern;
         writes_heading = m.writes_heading;
-        decides = subst (λ q. Decides (tableIn T) 500 q m.h r) e (decides m.h (subst (λ q. Decides (tableIn T) 500 q m.h right) (inv e) m.decides));
+        decides = subst (λ q. Decides (table_in T) 500 q m.h r) e (decides m.h (subst (λ q. Decides (table_in T) 500 q m.h right) (inv e) m.decides));
       }
 
 -- THEOREM: demand 2 allows variables packed over one another, variables packed by their numbers, and a number that is no symbol

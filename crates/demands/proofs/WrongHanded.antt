@@ -9,9 +9,9 @@ use lib.Dec.{lit<}
 use lib.ListN.{length, get_or}
 use Rattle.theory.specs.Tree.{Pattern, sym, ∅ₚ, ◌▸◌, encₚ}
 use Rattle.theory.specs.Read.{walk, several}
-use Rattle.meaning.specs.File.{aritiesIn, pairsIn, tableIn}
-use Rattle.meaning.specs.Refusals.{first, row1_short, row1_offsets, row2, row3, row4, row6, tableRows}
-use Rattle.meaning.specs.Calls.{gives, heading_degree, subtermRows}
+use Rattle.meaning.specs.File.{arities_in, pairs_in, table_in}
+use Rattle.meaning.specs.Refusals.{first, row1_short, row1_offsets, row2, row3, row4, row6, table_rows}
+use Rattle.meaning.specs.Calls.{gives, heading_degree, subterm_rows}
 use Rattle.meaning.specs.Demands.{WritesPattern}
 use Rattle.meaning.proofs.Examples.{T}
 use Rattle.headings.specs.Terms.{Nodes}
@@ -42,12 +42,12 @@ term = lent (1 ∷ 5 ∷ [])
 abbrev tree : Pattern
 tree = sym 1 (sym 5 ∅ₚ ▸ ∅ₚ)
 
-writes : WritesPattern (tableIn T) term.now tree
-unfolding tableIn aritiesIn
+writes : WritesPattern (table_in T) term.now tree
+unfolding table_in arities_in
 writes = record { fine = (lit< tt, refl, ((lit< tt, refl, tt), tt)); is = refl }
 
-taken : first (subtermRows T term.now) ≡ none
-unfolding subtermRows tableRows row1_short row1_offsets row2 row3 row4 row6 tableIn aritiesIn pairsIn walk several
+taken : first (subterm_rows T term.now) ≡ none
+unfolding subterm_rows table_rows row1_short row1_offsets row2 row3 row4 row6 table_in arities_in pairs_in walk several
 taken = refl
 
 -- THEOREM: a copy, in another block: it fails where the place is spoken of (`StandsFrom.block`)

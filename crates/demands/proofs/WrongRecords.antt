@@ -9,7 +9,7 @@ use native.Mathlib.Omega.{arith}
 use lib.ListN.{get_or}
 use Rattle.meaning.specs.Refusals.{refusal, number_of, first, row8-output}
 use Rattle.meaning.specs.Calls.{refused, gives, aye, zeros}
-use Rattle.marc.specs.Frame.{digitsAt, value_at, fields_in, frameRows}
+use Rattle.marc.specs.Frame.{digits_at, value_at, fields_in, frame_rows}
 use Rattle.marc.specs.Subfields.{text_of, subfield}
 use Rattle.marc.specs.Known.{known_in, number_in, row19}
 use Rattle.marc.specs.Heading.{first_with, field100, name_in, dates_in, row20, row21, row22, heading_rows, HeadedBy}
@@ -45,7 +45,7 @@ no_dates_fails P w f = let a = answered P f in omega (arith, w bytes text ends n
 -- THEOREM: dates that are not listed are taken for absent ones: they are told by 22, at 1
 pub unlisted_dates_fail : (P : Program) → (given P (1 ∷ 2 ∷ []) numbers).answer ≡ gives aye → Demand1 P → ⊥
 unfolding
-    heading_rows row19 row8-output frameRows row20 row21 row22 record_of digitsAt value_at fields_in first_with field100 name_in dates_in subfield text_of known_in number_in
+    heading_rows row19 row8-output frame_rows row20 row21 row22 record_of digits_at value_at fields_in first_with field100 name_in dates_in subfield text_of known_in number_in
 unlisted_dates_fail P w d =
     let q : first (heading_rows bytes (known_in text (1 ∷ 2 ∷ []) numbers) 0 4 (zeros 3)) ≡ just (refusal 22 1) = refl in
     some-ne-none (refusal 22 1) (inv q ∙ of_answer _ _ (d.marc_heading_lem bytes text (1 ∷ 2 ∷ []) numbers 0 4 (zeros 3)) aye w)
@@ -70,7 +70,7 @@ record_first_fails P w d =
 -- THEOREM: the heading symbol is written in any case
 pub writes_first_fails : (P : Program)
     → ((bytes text ends numbers : List ℕ) (heading absent : ℕ) (nodes : List ℕ) → get_or (P.marc_heading bytes text ends numbers heading absent nodes).output 0 0 ≡ heading) → Demand1 P → ⊥
-unfolding heading_rows row19 row8-output frameRows known_in
+unfolding heading_rows row19 row8-output frame_rows known_in
 writes_first_fails P w d =
     let q : first (heading_rows [] (known_in text ends numbers) 1 4 (zeros 3)) ≡ just (refusal 17 0) = refl in
     let e = by_refusal _ _ (d.marc_heading_lem [] text ends numbers 1 4 (zeros 3)) 17 0 q in

@@ -9,9 +9,9 @@ use native.Mathlib.Omega.{arith}
 use Rattle.theory.specs.Tree.{Term, Pattern}
 use Rattle.theory.specs.Table.{Table}
 use Rattle.theory.specs.Read.{walk, several}
-use Rattle.meaning.specs.File.{aritiesIn, pairsIn, tableIn}
-use Rattle.meaning.specs.Refusals.{Refusal, refusal, first, row1_short, row1_offsets, row2, row3, row4, row5, row6, row7, row8, tableRows}
-use Rattle.meaning.specs.Calls.{Answer, refused, gives, Degrees, degrees, Matched, inputRows, search_rows, match_rows, matchCall}
+use Rattle.meaning.specs.File.{arities_in, pairs_in, table_in}
+use Rattle.meaning.specs.Refusals.{Refusal, refusal, first, row1_short, row1_offsets, row2, row3, row4, row5, row6, row7, row8, table_rows}
+use Rattle.meaning.specs.Calls.{Answer, refused, gives, Degrees, degrees, Matched, input_rows, search_rows, match_rows, match_call}
 use Rattle.meaning.specs.Demands.{NoMatch, Found, Decides, Narrower, TwoCuts, Demand2 as MatchOf, Demand3 as CutsOf}
 use Rattle.meaning.proofs.First.{first_given}
 use Rattle.meaning.proofs.Compose.{first_stays, input_numbers}
@@ -28,21 +28,21 @@ use Rattle.demands.proofs.Exact.{not_both}
 -- ---- what demand 1 says of a call that is refused for its input or its room
 
 module _ (P : Program) (d : Demand1 P) (table pattern heading : List ℕ) (cut : ℕ) (spans sets : List ℕ) (n place : ℕ)
-    (e : first (inputRows table pattern heading cut spans sets) ≡ just (refusal n place)) where
+    (e : first (input_rows table pattern heading cut spans sets) ≡ just (refusal n place)) where
   -- LAW: the match gives that refusal, and leaves both buffers
   pub refused_input : ((P.match table pattern heading cut spans sets).answer ≡ refused n place)
       × ((P.match table pattern heading cut spans sets).spans ≡ spans) × ((P.match table pattern heading cut spans sets).sets ≡ sets)
   unfolding match_rows
   refused_input =
-      let rows = inputRows table pattern heading cut spans sets in
+      let rows = input_rows table pattern heading cut spans sets in
       let given = first_given (match_rows table pattern heading cut spans sets) n place (first_stays rows (search_rows table pattern heading cut) n place e) in
       let a = ((d.match table pattern heading cut spans sets).given n place).1 given in
       let l = (d.match_leaves table pattern heading cut spans sets).unchanged n place a (input_numbers table pattern heading cut spans sets n place e) in
       (a, l.0, l.1)
 
 -- lists of nothing are refused by 1
-nothing : first (inputRows [] [] [] 0 [] []) ≡ just (refusal 1 0)
-unfolding inputRows tableRows row1_short row1_offsets row2 row3 row4 row5 row6 row7 row8 tableIn aritiesIn pairsIn walk several
+nothing : first (input_rows [] [] [] 0 [] []) ≡ just (refusal 1 0)
+unfolding input_rows table_rows row1_short row1_offsets row2 row3 row4 row5 row6 row7 row8 table_in arities_in pairs_in walk several
 nothing = refl
 
 -- ---- lax: degrees 1 and 1, and both buffers lost, wherever the input or the room should be refused
@@ -52,7 +52,7 @@ laxly none r = r
 laxly (just x) r = record { answer = gives (degrees 1 1); spans = []; sets = [] }
 
 abbrev pub lax : (table pattern heading : List ℕ) (cut : ℕ) (spans sets : List ℕ) → Matched
-lax table pattern heading cut spans sets = laxly (first (inputRows table pattern heading cut spans sets)) (matchCall table pattern heading cut spans sets)
+lax table pattern heading cut spans sets = laxly (first (input_rows table pattern heading cut spans sets)) (match_call table pattern heading cut spans sets)
 
 as_it_was : (o : Option Refusal) (r : Matched) → o ≡ none → r ≡ laxly o r
 as_it_was o r e = rw e
@@ -71,7 +71,7 @@ lax_meets H = (
   by_cuts (with_match H lax) (lax_two H)
       (λ t p h c sp se c' sp' se' up a a'.
       subst (λ r. CutsOf t p h c r c' (lax t p h c' sp' se')) (as_it_was _ _ a)
-      (subst (λ r. CutsOf t p h c (matchCall t p h c sp se) c' r) (as_it_was _ _ a') ((demand3 H).cuts t p h c sp se c' sp' se' up a a'))),
+      (subst (λ r. CutsOf t p h c (match_call t p h c sp se) c' r) (as_it_was _ _ a') ((demand3 H).cuts t p h c sp se c' sp' se' up a a'))),
 )
 
 -- THEOREM: demand 1 does not
@@ -147,21 +147,21 @@ cuts_muddled T p h c r c' s d =
     }
 
 abbrev pub muddling : (table pattern heading : List ℕ) (cut : ℕ) (spans sets : List ℕ) → Matched
-muddling table pattern heading cut spans sets = muddled (matchCall table pattern heading cut spans sets)
+muddling table pattern heading cut spans sets = muddled (match_call table pattern heading cut spans sets)
 
 match_muddled : (t p h : List ℕ) (c : ℕ) (r : Matched) → MatchOf t p h c r → MatchOf t p h c (muddled r)
 match_muddled t p h c r d =
-    record { p = d.p; h = d.h; writes_pattern = d.writes_pattern; writes_heading = d.writes_heading; decides = decides_muddled (tableIn t) c d.p d.h r d.decides }
+    record { p = d.p; h = d.h; writes_pattern = d.writes_pattern; writes_heading = d.writes_heading; decides = decides_muddled (table_in t) c d.p d.h r d.decides }
 
 both_muddled : (t p h : List ℕ) (c : ℕ) (r : Matched) (c' : ℕ) (s : Matched) → CutsOf t p h c r c' s → CutsOf t p h c (muddled r) c' (muddled s)
 both_muddled t p h c r c' s d =
-    record { p = d.p; h = d.h; writes_pattern = d.writes_pattern; writes_heading = d.writes_heading; two_cuts = cuts_muddled (tableIn t) d.p d.h c r c' s d.two_cuts }
+    record { p = d.p; h = d.h; writes_pattern = d.writes_pattern; writes_heading = d.writes_heading; two_cuts = cuts_muddled (table_in t) d.p d.h c r c' s d.two_cuts }
 
 muddling_two : (H : Handing) → Demand2 (with_match H muddling)
 muddling_two H =
     record {
       degree = (demand2 H).degree;
-      match = λ t p h c sp se a. match_muddled t p h c (matchCall t p h c sp se) ((demand2 H).match t p h c sp se a);
+      match = λ t p h c sp se a. match_muddled t p h c (match_call t p h c sp se) ((demand2 H).match t p h c sp se a);
     }
 
 -- THEOREM: demands 2 and 3 allow it
@@ -169,14 +169,14 @@ pub muddling_meets : (H : Handing) → Demand2 (with_match H muddling) × Demand
 muddling_meets H = (
   muddling_two H,
   by_cuts (with_match H muddling) (muddling_two H)
-      (λ t p h c sp se c' sp' se' up a a'. both_muddled t p h c (matchCall t p h c sp se) c' (matchCall t p h c' sp' se') ((demand3 H).cuts t p h c sp se c' sp' se' up a a')),
+      (λ t p h c sp se c' sp' se' up a a'. both_muddled t p h c (match_call t p h c sp se) c' (match_call t p h c' sp' se') ((demand3 H).cuts t p h c sp se c' sp' se' up a a')),
 )
 
 -- THEOREM: demand 1 does not
 pub muddling_fails : (P : Program)
     → ((table pattern heading : List ℕ) (cut : ℕ) (spans sets : List ℕ) → P.match table pattern heading cut spans sets ≡ muddling table pattern heading cut spans sets)
     → Demand1 P → ⊥
-muddling_fails P w d = ten_for_one (matchCall [] [] [] 0 [] []).answer (inv (ap (λ r. r.answer) (w [] [] [] 0 [] [])) ∙ (refused_input P d [] [] [] 0 [] [] 1 0 nothing).0)
+muddling_fails P w d = ten_for_one (match_call [] [] [] 0 [] []).answer (inv (ap (λ r. r.answer) (w [] [] [] 0 [] [])) ∙ (refused_input P d [] [] [] 0 [] [] 1 0 nothing).0)
   where
     ten_for_one : (a : Answer Degrees) → muddle a ≡ refused 1 0 → ⊥
     ten_for_one (refused n place) e = let z : ◌≡◌ {A = ℕ} 10 1 = cc in omega arith

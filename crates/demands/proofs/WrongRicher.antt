@@ -9,10 +9,10 @@ use native.Mathlib.Omega.{arith}
 use Rattle.theory.specs.Table.{Richer}
 use Rattle.theory.specs.Read.{walk, several}
 use Rattle.theory.specs.Decode.{pattern_of, term_of, parse, parse_row}
-use Rattle.meaning.specs.File.{aritiesIn, pairsIn, tableIn}
-use Rattle.meaning.specs.Refusals.{row1_short, row1_offsets, row2, row3, row4, row5, row6, row7, row8, row9, row10, tableRows, SoundFile}
+use Rattle.meaning.specs.File.{arities_in, pairs_in, table_in}
+use Rattle.meaning.specs.Refusals.{row1_short, row1_offsets, row2, row3, row4, row5, row6, row7, row8, row9, row10, table_rows, SoundFile}
 use Rattle.meaning.specs.Packing.{packed_count}
-use Rattle.meaning.specs.Calls.{Answer, refused, gives, Degrees, degrees, facesIn, inputRows, search_rows, match_rows, matched}
+use Rattle.meaning.specs.Calls.{Answer, refused, gives, Degrees, degrees, faces_in, input_rows, search_rows, match_rows, matched}
 use Rattle.meaning.specs.Demands.{Accepted}
 use Rattle.meaning.specs.Tables.{arity_byte, KeptAs}
 use Rattle.meaning.proofs.PairsKept.{made_richer}
@@ -27,7 +27,7 @@ answer_of P table pattern heading cut = (P.match table pattern heading cut no_sp
 
 -- what is claimed of the degrees of two answers to one question, the second over a richer table
 abbrev OfBoth : Program → (ℕ → ℕ → ℕ → ℕ → Type 0) → Type 0
-OfBoth P Claim = (table₁ table₂ pattern heading : List ℕ) (cut low₁ high₁ low₂ high₂ : ℕ) → Richer (tableIn table₁) (tableIn table₂)
+OfBoth P Claim = (table₁ table₂ pattern heading : List ℕ) (cut low₁ high₁ low₂ high₂ : ℕ) → Richer (table_in table₁) (table_in table₂)
     → answer_of P table₁ pattern heading cut ≡ gives (degrees low₁ high₁) → answer_of P table₂ pattern heading cut ≡ gives (degrees low₂ high₂) → Claim low₁ high₁ low₂ high₂
 
 abbrev LowestNeverFalls : Program → Type 0
@@ -38,7 +38,7 @@ HighestNeverRises P = OfBoth P (λ low₁ high₁ low₂ high₂. high₂ ≤ hi
 
 -- as many symbols and no degree lower, but other arities: an answer stays one
 abbrev AnyArities : Program → Type 0
-AnyArities P = (table₁ table₂ pattern heading : List ℕ) (cut : ℕ) → (tableIn table₁).size ≡ (tableIn table₂).size → ((a b : ℕ) → (tableIn table₁).deg a b ≤ (tableIn table₂).deg a b)
+AnyArities P = (table₁ table₂ pattern heading : List ℕ) (cut : ℕ) → (table_in table₁).size ≡ (table_in table₂).size → ((a b : ℕ) → (table_in table₁).deg a b ≤ (table_in table₂).deg a b)
     → Accepted table₁ pattern heading cut no_spans (no_sets 4) → Accepted table₂ pattern heading cut no_spans (no_sets 4)
     → (d : Degrees) → answer_of P table₁ pattern heading cut ≡ gives d → (e : Degrees) × (answer_of P table₂ pattern heading cut ≡ gives e)
 
@@ -56,7 +56,7 @@ abbrev four : ℕ → ℕ → List ℕ
 four a b = 4 ∷ 0 ∷ 0 ∷ 0 ∷ 10 ∷ 0 ∷ 14 ∷ 0 ∷ 14 ∷ 0 ∷ 2 ∷ a ∷ b ∷ 0 ∷ []
 
 sound : SoundFile apart × SoundFile (near 5) × SoundFile (near 7)
-unfolding tableRows row1_short row1_offsets row2 row3 row4 aritiesIn pairsIn
+unfolding table_rows row1_short row1_offsets row2 row3 row4 arities_in pairs_in
 sound = (refl, refl, refl)
 
 -- of both symbols
@@ -66,13 +66,13 @@ both P x y (suc zero) l = y
 both P x y (suc (suc a)) l = absurd (omega arith)
 
 -- a pair is added
-pub added : Richer (tableIn apart) (tableIn (near 5))
+pub added : Richer (table_in apart) (table_in (near 5))
 added =
     (made_richer apart (near 5) sound.0 sound.1).1
     (record { as_many = refl; same_arities = both (λ a. arity_byte apart a ≡ arity_byte (near 5) a) refl refl; kept = λ k l. absurd (not-suc-le-zero l) })
 
 -- a degree is raised
-raised : Richer (tableIn (near 5)) (tableIn (near 7))
+raised : Richer (table_in (near 5)) (table_in (near 7))
 raised =
     (made_richer (near 5) (near 7) sound.1 sound.2).1
     (record { as_many = refl; same_arities = both (λ a. arity_byte (near 5) a ≡ arity_byte (near 7) a) refl refl; kept = kept })
@@ -82,8 +82,8 @@ raised =
     kept (suc k) l = absurd (omega arith)
 
 -- as many symbols, and no degree is lower: each symbol is near itself alone
-as_near : ((tableIn (four 1 0)).size ≡ (tableIn (four 0 1)).size) × ((a b : ℕ) → (tableIn (four 1 0)).deg a b ≤ (tableIn (four 0 1)).deg a b)
-unfolding tableIn aritiesIn pairsIn
+as_near : ((table_in (four 1 0)).size ≡ (table_in (four 0 1)).size) × ((a b : ℕ) → (table_in (four 1 0)).deg a b ≤ (table_in (four 0 1)).deg a b)
+unfolding table_in arities_in pairs_in
 as_near = (refl, λ a b. omega arith)
 
 -- ---- what is answered: x0 with 0 at cut 1; 1 with 0 at cut 5; 0(x0, 3) with 0(1(2), 3), which the other arities make 0(1, 2(3))
@@ -103,12 +103,12 @@ computed : (meant_of apart (32768 ∷ []) (0 ∷ []) 1 ≡ gives (degrees 1000 1
     × (meant_of (four 1 0) pattern heading 1000 ≡ gives (degrees 1000 1000))
     × (meant_of (four 0 1) pattern heading 1000 ≡ refused 9 2)
 unfolding
-    matched match_rows inputRows search_rows facesIn packed_count tableRows row1_short row1_offsets row2 row3 row4 row5 row6 row7 row8 row9 row10 tableIn aritiesIn pairsIn
+    matched match_rows input_rows search_rows faces_in packed_count table_rows row1_short row1_offsets row2 row3 row4 row5 row6 row7 row8 row9 row10 table_in arities_in pairs_in
     pattern_of term_of parse parse_row walk several
 computed = (refl, refl, refl, refl, refl, refl)
 
 passed : Accepted (four 1 0) pattern heading 1000 no_spans (no_sets 4) × Accepted (four 0 1) pattern heading 1000 no_spans (no_sets 4)
-unfolding inputRows tableRows row1_short row1_offsets row2 row3 row4 row5 row6 row7 row8 tableIn aritiesIn pairsIn walk several
+unfolding input_rows table_rows row1_short row1_offsets row2 row3 row4 row5 row6 row7 row8 table_in arities_in pairs_in walk several
 passed = (refl, refl)
 
 module _ (P : Program) (keeps : Promise P) where

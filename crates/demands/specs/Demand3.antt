@@ -8,7 +8,7 @@
 use Rattle.std.specs.Prelude.{◌≡◌, ◌↔◌, List, true, ℕ, ◌≤◌}
 use Rattle.theory.specs.Tree.{Term, Pattern, fill, stands}
 use Rattle.theory.specs.Table.{Table, degree}
-use Rattle.meaning.specs.File.{tableIn}
+use Rattle.meaning.specs.File.{table_in}
 use Rattle.meaning.specs.Calls.{gives, Degrees, Matched}
 use Rattle.meaning.specs.Buffers.{DrawnFrom}
 use Rattle.meaning.specs.Demands.{WritesTerm, WritesPattern, Accepted, Demand3 as CutsOf}
@@ -21,7 +21,7 @@ DrawnBy T p r σ = (v : ℕ) → stands v p ≡ true → DrawnFrom T r.spans r.s
 -- Once the second call answers, what can be drawn from its buffers is what can be drawn from the first's and has a degree of its own that reaches the
 -- second cut.
 abbrev pub DrawnOf : (table pattern heading : List ℕ) (cut₁ : ℕ) (r₁ : Matched) (cut₂ : ℕ) (r₂ : Matched) → Type 0
-DrawnOf table pattern heading cut₁ r₁ cut₂ r₂ = let T = tableIn table in
+DrawnOf table pattern heading cut₁ r₁ cut₂ r₂ = let T = table_in table in
     (p : Pattern) → WritesPattern T pattern p → (h : Term) → WritesTerm T heading h → (d : Degrees) → r₂.answer ≡ gives d
     → (σ : ℕ → Term) → DrawnBy T p r₂ σ ↔ (DrawnBy T p r₁ σ × (cut₂ ≤ degree T (fill σ p) h))
 

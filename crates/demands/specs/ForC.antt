@@ -2,7 +2,7 @@
 -- says, they are a program, so that the demands are on them too.
 use Rattle.std.specs.Prelude.{◌≡◌, ◌↔◌, List, cond, ℕ, ◌+◌, ◌*◌, ◌/◌, ◌%◌, ◌≤◌, ◌<◌, eqb, leb, length, take, drop}
 use Rattle.theory.specs.Pairs.{Pair, pair}
-use Rattle.meaning.specs.Calls.{Answer, refused, gives, aye, degrees, nearerRows}
+use Rattle.meaning.specs.Calls.{Answer, refused, gives, aye, degrees, nearer_rows}
 use Rattle.table.specs.declared.read.Pair.{Pair as Record}
 use Rattle.headings.specs.Terms.{Nodes}
 use Rattle.marc.specs.Known.{known_in}
@@ -116,7 +116,7 @@ heading_of r = record { answer = answer_of r.code aye; output = r.nodes }
 pub record InRange (C : CCalls) : Type 0 where
   pub nodes : (table term : List ℕ) (index : ℕ) → 0 < C.subterm table term index → index + C.subterm table term index ≤ length term
   pub candidates : (table heading one two : List ℕ) → C.nearer table heading one two ≤ 2
-  pub neither : (table heading one two : List ℕ) → C.nearer table heading one two ≡ 0 ↔ Refuses (nearerRows table heading one two)
+  pub neither : (table heading one two : List ℕ) → C.nearer table heading one two ≡ 0 ↔ Refuses (nearer_rows table heading one two)
 
 -- With a list that cannot be lent there is no call for C; the program is what the call means there.
 abbrev pub program_of_c : CCalls → Program

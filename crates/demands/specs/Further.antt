@@ -4,10 +4,10 @@ use Rattle.std.proofs.Math.Option.{none}
 use Rattle.theory.specs.Tree.{Term, Pattern}
 use Rattle.theory.specs.Table.{Table, Richer}
 use Rattle.theory.specs.Pairs.{Pair}
-use Rattle.meaning.specs.File.{tableIn}
+use Rattle.meaning.specs.File.{table_in}
 use Rattle.meaning.specs.Refusals.{first, SoundFile}
-use Rattle.meaning.specs.Limits.{setWords}
-use Rattle.meaning.specs.Calls.{Answer, refused, gives, degree_rows, aye, Degrees, degrees, facesIn, Matched}
+use Rattle.meaning.specs.Limits.{set_words_lem}
+use Rattle.meaning.specs.Calls.{Answer, refused, gives, degree_rows, aye, Degrees, degrees, faces_in, Matched}
 use Rattle.meaning.specs.Demands.{WritesTerm, WritesPattern, Accepted}
 use Rattle.meaning.specs.Tables.{TableFile, TopNotListed, TopNotWritten, SymbolDegrees, MadeRicher, ReadBack, RoundTrip}
 use Rattle.meaning.specs.Saved.{saved_room, Widens, left_then}
@@ -23,10 +23,10 @@ use Rattle.demands.specs.RecordHeadings.{RecordHeadings}
 -- ---- headings, by what the program itself says of symbols and of headings
 
 -- The degree d of two headings is the lowest over all symbols that stand at one place in both lists; it is 0 where one list is longer.
-pub record LowestPaired (degreeOf : ℕ → ℕ → Answer ℕ) (one two : List ℕ) (d : ℕ) : Type 0 where
+pub record LowestPaired (degree_of : ℕ → ℕ → Answer ℕ) (one two : List ℕ) (d : ℕ) : Type 0 where
   pub one_longer : (length one ≡ length two → ⊥) → d ≡ 0
-  pub bounds : length one ≡ length two → (k : ℕ) → k < length one → (e : ℕ) → degreeOf (get_or one k 0) (get_or two k 0) ≡ gives e → d ≤ e
-  pub reached : length one ≡ length two → (k : ℕ) × (k < length one) × (degreeOf (get_or one k 0) (get_or two k 0) ≡ gives d)
+  pub bounds : length one ≡ length two → (k : ℕ) → k < length one → (e : ℕ) → degree_of (get_or one k 0) (get_or two k 0) ≡ gives e → d ≤ e
+  pub reached : length one ≡ length two → (k : ℕ) × (k < length one) × (degree_of (get_or one k 0) (get_or two k 0) ≡ gives d)
 
 -- ---- a match that is not refused for its input or its room, of a list that writes p and one that writes h: the reasons of a refusal; the sets and
 -- the degrees of an answer, those of each variable, where its variables are packed, and why they always fit
@@ -70,27 +70,27 @@ pub record Further (P : Program) : Type 0 where
   pub handed_back : HandedBack P
   -- the match
   pub matches : (table pattern heading : List ℕ) (cut : ℕ) (spans sets : List ℕ) → Accepted table pattern heading cut spans sets
-      → (p : Pattern) → WritesPattern (tableIn table) pattern p → (h : Term) → WritesTerm (tableIn table) heading h
-      → MatchSays (tableIn table) cut p h pattern (P.match table pattern heading cut spans sets)
+      → (p : Pattern) → WritesPattern (table_in table) pattern p → (h : Term) → WritesTerm (table_in table) heading h
+      → MatchSays (table_in table) cut p h pattern (P.match table pattern heading cut spans sets)
   -- the match at cut 1000. The first sentence names no match: it says what it means that the program accepts a table, and would not hold of one that accepts
   -- a file in which two different symbols have degree 1000. (`made-richer` below too says what that means.)
   pub matchers_make_it : (table : List ℕ) → P.is_table_lem table ≡ gives aye → MatchersMakeIt table
   pub top_cut : (table pattern heading spans sets : List ℕ) → Accepted table pattern heading 1000 spans sets
-      → (p : Pattern) → WritesPattern (tableIn table) pattern p → (h : Term) → WritesTerm (tableIn table) heading h
-      → AtTopCut (tableIn table) p h pattern heading (P.match table pattern heading 1000 spans sets)
+      → (p : Pattern) → WritesPattern (table_in table) pattern p → (h : Term) → WritesTerm (table_in table) heading h
+      → AtTopCut (table_in table) p h pattern heading (P.match table pattern heading 1000 spans sets)
   -- a richer table: which files hold one; one question, asked of two tables of which the second is richer; and with the same buffers, where it is enough
   -- that the second file is a table
   pub made_richer : (table₁ table₂ : List ℕ) → P.is_table_lem table₁ ≡ gives aye → P.is_table_lem table₂ ≡ gives aye → MadeRicher table₁ table₂
-  pub richer : (table₁ table₂ pattern heading : List ℕ) (cut : ℕ) (spans₁ sets₁ spans₂ sets₂ : List ℕ) → Richer (tableIn table₁) (tableIn table₂)
+  pub richer : (table₁ table₂ pattern heading : List ℕ) (cut : ℕ) (spans₁ sets₁ spans₂ sets₂ : List ℕ) → Richer (table_in table₁) (table_in table₂)
       → Accepted table₁ pattern heading cut spans₁ sets₁ → Accepted table₂ pattern heading cut spans₂ sets₂
       → LosesNothing table₁ table₂ pattern heading cut (P.match table₁ pattern heading cut spans₁ sets₁) (P.match table₂ pattern heading cut spans₂ sets₂)
-  pub stays_answered : (table₁ table₂ pattern heading : List ℕ) (cut : ℕ) (spans sets : List ℕ) → Richer (tableIn table₁) (tableIn table₂) → P.is_table_lem table₂ ≡ gives aye
+  pub stays_answered : (table₁ table₂ pattern heading : List ℕ) (cut : ℕ) (spans sets : List ℕ) → Richer (table_in table₁) (table_in table₂) → P.is_table_lem table₂ ≡ gives aye
       → (d : Degrees) → (P.match table₁ pattern heading cut spans sets).answer ≡ gives d → (e : Degrees) × ((P.match table₂ pattern heading cut spans sets).answer ≡ gives e)
   -- saved answers: what the converter leaves; and that a saved answer of a table whose symbols all had room, converted, is what the match itself leaves
   -- today in sets for as many positions
   pub widens : (words output : List ℕ) → Widens words output (P.widen words output)
-  pub as_today : (table pattern heading : List ℕ) (cut : ℕ) (spans sets output : List ℕ) → (tableIn table).size ≤ saved_room
-      → (d : Degrees) → (P.match table pattern heading cut spans sets).answer ≡ gives d → (n : ℕ) → length sets ≡ setWords * n → length sets ≤ length output
-      → (P.widen (left_then (tableIn table) cut (facesIn table pattern heading) n) output).output ≡ (P.match table pattern heading cut spans sets).sets ++ drop (length sets) output
+  pub as_today : (table pattern heading : List ℕ) (cut : ℕ) (spans sets output : List ℕ) → (table_in table).size ≤ saved_room
+      → (d : Degrees) → (P.match table pattern heading cut spans sets).answer ≡ gives d → (n : ℕ) → length sets ≡ set_words_lem * n → length sets ≤ length output
+      → (P.widen (left_then (table_in table) cut (faces_in table pattern heading) n) output).output ≡ (P.match table pattern heading cut spans sets).sets ++ drop (length sets) output
   -- exchange records
   pub record_headings : RecordHeadings P

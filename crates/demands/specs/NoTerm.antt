@@ -3,7 +3,7 @@
 use Rattle.std.specs.Prelude.{◌≡◌, ◌↔◌, List, Bool, true, false, ℕ, ◌≤◌}
 use Rattle.theory.specs.Tree.{Pattern}
 use Rattle.theory.specs.Table.{Table}
-use Rattle.meaning.specs.File.{tableIn}
+use Rattle.meaning.specs.File.{table_in}
 use Rattle.meaning.specs.Calls.{Answer, refused}
 use Rattle.meaning.specs.Parts.{IsTerm}
 use Rattle.demands.specs.Program.{Program}
@@ -24,10 +24,10 @@ IsCut cut = (1 ≤ cut) × (cut ≤ 1000)
 
 pub record RefusesNoTerms (P : Program) (table : List ℕ) : Type 0 where
   -- the degree of two headings
-  pub first_heading : (one two : List ℕ) → RefusedBy 6 (P.heading_degree table one two) ↔ NoTerm (tableIn table) false one
-  pub second_heading : (one two : List ℕ) → RefusedBy 7 (P.heading_degree table one two) ↔ (ATerm (tableIn table) false one × NoTerm (tableIn table) false two)
+  pub first_heading : (one two : List ℕ) → RefusedBy 6 (P.heading_degree table one two) ↔ NoTerm (table_in table) false one
+  pub second_heading : (one two : List ℕ) → RefusedBy 7 (P.heading_degree table one two) ↔ (ATerm (table_in table) false one × NoTerm (table_in table) false two)
   -- the match, whose cut is asked for before
   pub pattern : (pattern heading : List ℕ) (cut : ℕ) (spans sets : List ℕ)
-      → RefusedBy 6 (P.match table pattern heading cut spans sets).answer ↔ (IsCut cut × NoTerm (tableIn table) true pattern)
+      → RefusedBy 6 (P.match table pattern heading cut spans sets).answer ↔ (IsCut cut × NoTerm (table_in table) true pattern)
   pub heading : (pattern heading : List ℕ) (cut : ℕ) (spans sets : List ℕ)
-      → RefusedBy 7 (P.match table pattern heading cut spans sets).answer ↔ (IsCut cut × ATerm (tableIn table) true pattern × NoTerm (tableIn table) false heading)
+      → RefusedBy 7 (P.match table pattern heading cut spans sets).answer ↔ (IsCut cut × ATerm (table_in table) true pattern × NoTerm (table_in table) false heading)

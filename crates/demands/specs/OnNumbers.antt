@@ -1,6 +1,6 @@
 -- The writer that takes numbers, three to a pair, held against the writer that takes records, of which the demands are.
 use Rattle.std.specs.Prelude.{◌≡◌, List, ℕ, ◌%◌, ◌≤◌, length}
-use Rattle.meaning.specs.File.{pairsOf}
+use Rattle.meaning.specs.File.{pairs_of}
 use Rattle.meaning.specs.Calls.{refused}
 use Rattle.writer.specs.Said.{said}
 use Rattle.demands.specs.Public.{Written, Calls, records_of}
@@ -16,6 +16,6 @@ pub record RefusedEarly (output : List ℕ) (w : Written) : Type 0 where
 
 pub record OnNumbers (C : Calls) : Type 0 where
   -- it returns and leaves what the other does for the pairs that the numbers give
-  pub as_records : (arities numbers output : List ℕ) → C.write_table_lem arities numbers output ≡ C.write_records_lem arities (records_of (pairsOf numbers)) output
+  pub as_records : (arities numbers output : List ℕ) → C.write_table_lem arities numbers output ≡ C.write_records_lem arities (records_of (pairs_of numbers)) output
   -- and nothing is written where the last pair lacks a number
   pub unfinished : (arities numbers output : List ℕ) → (length numbers % 3 ≡ 0 → ⊥) → RefusedEarly output (C.write_table_lem arities numbers output)

@@ -3,7 +3,7 @@
 -- reads a heading from an exchange record by a list of known strings.
 use Rattle.std.specs.Prelude.{◌≡◌, List, ℕ}
 use Rattle.theory.specs.Pairs.{Pair}
-use Rattle.meaning.specs.Calls.{Answer, Yes, is_table_lem, symbol_degree_lem, heading_degree, Matched, matchCall, arity_back, pair_back}
+use Rattle.meaning.specs.Calls.{Answer, Yes, is_table_lem, symbol_degree_lem, heading_degree, Matched, match_call, arity_back, pair_back}
 use Rattle.meaning.specs.Tables.{Wrote, write_call}
 use Rattle.meaning.specs.Saved.{widen_call}
 use Rattle.headings.specs.Terms.{Nodes, Subterm, Nearer}
@@ -31,7 +31,7 @@ pub record Promise (P : Program) : Type 0 where
   pub heading_degree_lem : (table one two : List ℕ) → P.heading_degree table one two ≡ heading_degree table one two
   pub subterm : (table : List ℕ) (term : Nodes) (i : ℕ) → Subterm table term i (P.subterm table term i)
   pub nearer : (table heading : List ℕ) (one two : Nodes) → Nearer table heading one two (P.nearer table heading one two)
-  pub match : (table pattern heading : List ℕ) (cut : ℕ) (spans sets : List ℕ) → P.match table pattern heading cut spans sets ≡ matchCall table pattern heading cut spans sets
+  pub match : (table pattern heading : List ℕ) (cut : ℕ) (spans sets : List ℕ) → P.match table pattern heading cut spans sets ≡ match_call table pattern heading cut spans sets
   pub write_table_lem-is : (arities : List ℕ) (pairs : List Pair) (output : List ℕ) → P.write_table_lem arities pairs output ≡ write_call arities pairs output
   pub arity_of_lem-is : (table : List ℕ) (symbol : ℕ) → P.arity_of_lem table symbol ≡ arity_back table symbol
   pub pair_of_lem : (table : List ℕ) (index : ℕ) → P.pair_of table index ≡ pair_back table index

@@ -3,7 +3,7 @@
 use Rattle.std.specs.Prelude.{◌≡◌, ◌↔◌, List, ◌++◌, false, ℕ, ◌<◌, get_or, take, drop}
 use Rattle.std.proofs.Math.Option.{none, some as just}
 use Rattle.theory.specs.Pairs.{pair, is_pair}
-use Rattle.meaning.specs.File.{pairCount, pairsIn}
+use Rattle.meaning.specs.File.{pair_count_lem, pairs_in}
 use Rattle.meaning.specs.Calls.{refused, gives, aye}
 use Rattle.marc.specs.Known.{known_in}
 use Rattle.marc.specs.Heading.{dates_in}
@@ -14,7 +14,7 @@ use Rattle.demands.specs.Program.{Program}
 pub record DatesApart (P : Program) (one two : List ℕ) : Type 0 where
   pub never_whole : (table : List ℕ) → P.heading_degree table one two ≡ gives 1000 → ⊥
   pub unless-listed : (table : List ℕ)
-      → ((k l h d : ℕ) → k < pairCount table → get_or (pairsIn table) k (pair 0 0 0) ≡ pair l h d → is_pair l h (get_or one 2 0) (get_or two 2 0) ≡ false)
+      → ((k l h d : ℕ) → k < pair_count_lem table → get_or (pairs_in table) k (pair 0 0 0) ≡ pair l h d → is_pair l h (get_or one 2 0) (get_or two 2 0) ≡ false)
       → (d : ℕ) → P.heading_degree table one two ≡ gives d → d ≡ 0
 
 pub record RecordHeadings (P : Program) : Type 0 where

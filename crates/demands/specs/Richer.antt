@@ -3,10 +3,10 @@
 use Rattle.std.specs.Prelude.{◌≡◌, List, true, ℕ, ◌≤◌, ◌<◌}
 use Rattle.theory.specs.Tree.{Term, Pattern, fill}
 use Rattle.theory.specs.Table.{Table, degree, Matcher}
-use Rattle.meaning.specs.Limits.{setRoom, variableCount}
-use Rattle.meaning.specs.File.{tableIn}
+use Rattle.meaning.specs.Limits.{set_room, variable_count}
+use Rattle.meaning.specs.File.{table_in}
 use Rattle.meaning.specs.Calls.{gives, Degrees, highest_in, Matched}
-use Rattle.meaning.specs.Buffers.{firstPosition, positionCount, ownHighest, holds}
+use Rattle.meaning.specs.Buffers.{first_position_lem, position_count_lem, own_highest_lem, holds}
 use Rattle.meaning.specs.Demands.{WritesTerm, WritesPattern, Only}
 use Rattle.meaning.specs.Matching.{InSpan}
 use Rattle.demands.specs.Demand3.{DrawnBy}
@@ -21,10 +21,10 @@ MatchersStay T R cut p h = (σ : ℕ → Term) → Matcher T cut p h σ → Matc
 pub record StillAnswers (T R : Table) (p : Pattern) (r₁ r₂ : Matched) : Type 0 where
   pub answers : (d : Degrees) × (r₂.answer ≡ gives d)
   pub highest_not_lower : highest_in r₁.answer ≤ highest_in r₂.answer
-  pub same_start : (v : ℕ) → v < variableCount → firstPosition r₁.spans v ≡ firstPosition r₂.spans v
-  pub same_count : (v : ℕ) → v < variableCount → positionCount r₁.spans v ≡ positionCount r₂.spans v
-  pub own_highest_not_lower : (v : ℕ) → v < variableCount → ownHighest r₁.spans v ≤ ownHighest r₂.spans v
-  pub no_symbol_lost : (v : ℕ) → v < variableCount → (position : ℕ) → InSpan r₁.spans v position → (symbol : ℕ) → symbol < setRoom
+  pub same_start : (v : ℕ) → v < variable_count → first_position_lem r₁.spans v ≡ first_position_lem r₂.spans v
+  pub same_count : (v : ℕ) → v < variable_count → position_count_lem r₁.spans v ≡ position_count_lem r₂.spans v
+  pub own_highest_not_lower : (v : ℕ) → v < variable_count → own_highest_lem r₁.spans v ≤ own_highest_lem r₂.spans v
+  pub no_symbol_lost : (v : ℕ) → v < variable_count → (position : ℕ) → InSpan r₁.spans v position → (symbol : ℕ) → symbol < set_room
       → holds r₁.sets position symbol ≡ true → holds r₂.sets position symbol ≡ true
   pub drawn : (σ : ℕ → Term) → DrawnBy T p r₁ σ → DrawnBy R p r₂ σ
 
@@ -33,9 +33,9 @@ pub record StillAnswers (T R : Table) (p : Pattern) (r₁ r₂ : Matched) : Type
 pub record LosesNothing (table₁ table₂ pattern heading : List ℕ) (cut : ℕ) (r₁ r₂ : Matched) : Type 0 where
   pub p : Pattern
   pub h : Term
-  pub writes_pattern₁ : Only (WritesPattern (tableIn table₁) pattern) p
-  pub writes_pattern₂ : Only (WritesPattern (tableIn table₂) pattern) p
-  pub writes_heading₁ : Only (WritesTerm (tableIn table₁) heading) h
-  pub writes_heading₂ : Only (WritesTerm (tableIn table₂) heading) h
-  pub matchers : MatchersStay (tableIn table₁) (tableIn table₂) cut p h
-  pub answered : (d : Degrees) → r₁.answer ≡ gives d → StillAnswers (tableIn table₁) (tableIn table₂) p r₁ r₂
+  pub writes_pattern₁ : Only (WritesPattern (table_in table₁) pattern) p
+  pub writes_pattern₂ : Only (WritesPattern (table_in table₂) pattern) p
+  pub writes_heading₁ : Only (WritesTerm (table_in table₁) heading) h
+  pub writes_heading₂ : Only (WritesTerm (table_in table₂) heading) h
+  pub matchers : MatchersStay (table_in table₁) (table_in table₂) cut p h
+  pub answered : (d : Degrees) → r₁.answer ≡ gives d → StillAnswers (table_in table₁) (table_in table₂) p r₁ r₂

@@ -6,7 +6,7 @@ use Prim.Native.Nat.{ℕ}
 use Rattle.meaning.specs.Refusals.{refusal, first}
 use Rattle.meaning.proofs.First.{first-append}
 use Rattle.meaning.proofs.Compose.{first_stays}
-use Rattle.marc.specs.Frame.{frameRows}
+use Rattle.marc.specs.Frame.{frame_rows}
 use Rattle.marc.specs.Subfields.{subfield}
 use Rattle.marc.specs.Known.{Known, number_in}
 use Rattle.marc.specs.Heading.{code_a, code_d, field100, name_in, dates_in, node_of, row20, row21, row22}
@@ -43,14 +43,14 @@ module _ (f : List ℕ) (ks : List Known) where
 -- ---- a record
 
 module _ (r : List ℕ) (ks : List Known) where
-  pub no_frame : (place : ℕ) → just (refusal 17 place) ≡ first (frameRows r) → first (record_rows r ks) ≡ just (refusal 17 place)
+  pub no_frame : (place : ℕ) → just (refusal 17 place) ≡ first (frame_rows r) → first (record_rows r ks) ≡ just (refusal 17 place)
   unfolding record_rows
-  no_frame place e = first_stays (frameRows r) (row20 r ∷ row21 r ∷ row22 ks r ∷ []) 17 place (inv e)
+  no_frame place e = first_stays (frame_rows r) (row20 r ∷ row21 r ∷ row22 ks r ∷ []) 17 place (inv e)
 
-  module _ (framed : first (frameRows r) ≡ none) where
+  module _ (framed : first (frame_rows r) ≡ none) where
     pub no_field : field100 r ≡ none → first (record_rows r ks) ≡ just (refusal 20 0)
     unfolding record_rows row20
-    no_field e = first-append (frameRows r) (row20 r ∷ row21 r ∷ row22 ks r ∷ []) framed ∙ go
+    no_field e = first-append (frame_rows r) (row20 r ∷ row21 r ∷ row22 ks r ∷ []) framed ∙ go
       where
         go : first (row20 r ∷ row21 r ∷ row22 ks r ∷ []) ≡ just (refusal 20 0)
         go = rw e
@@ -58,7 +58,7 @@ module _ (r : List ℕ) (ks : List Known) where
     module _ (f : List ℕ) (is : field100 r ≡ just f) where
       rows_are : first (record_rows r ks) ≡ first (name_rows f ks)
       unfolding record_rows row20 row21 row22 name_rows name_in dates_in
-      rows_are = first-append (frameRows r) (row20 r ∷ row21 r ∷ row22 ks r ∷ []) framed ∙ go
+      rows_are = first-append (frame_rows r) (row20 r ∷ row21 r ∷ row22 ks r ∷ []) framed ∙ go
         where
           go : first (row20 r ∷ row21 r ∷ row22 ks r ∷ []) ≡ first (name_rows f ks)
           go = rw is

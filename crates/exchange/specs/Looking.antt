@@ -3,7 +3,7 @@ use Rattle.std.specs.Prelude.{◌≡◌, List, [], ◌∷◌, ◌++◌, ℕ}
 use Rattle.std.proofs.Math.Option.{Option, none, some as just}
 use Rattle.theory.specs.Least.{or_else}
 use Rattle.meaning.specs.Refusals.{Row, row, at0, first}
-use Rattle.marc.specs.Frame.{frameRows, at_if}
+use Rattle.marc.specs.Frame.{frame_rows, at_if}
 use Rattle.marc.specs.Subfields.{subfield}
 use Rattle.marc.specs.Known.{Known, number_in}
 use Rattle.marc.specs.Heading.{code_a, code_d, missing, name_in, dates_in, unlisted, node_of, row20, row21, row22}
@@ -22,7 +22,7 @@ name_rows content ks =
 
 -- 17 and 20 to 22, of a record
 unfoldable pub record_rows : List ℕ → List Known → List Row
-record_rows r ks = frameRows r ++ (row20 r ∷ row21 r ∷ row22 ks r ∷ [])
+record_rows r ks = frame_rows r ++ (row20 r ∷ row21 r ∷ row22 ks r ∷ [])
 
 -- What stands under a code: nothing, or a string that is not listed, or one with a number.
 abbrev pub PartIs : List Known → Option (List ℕ) → Part → Type 0

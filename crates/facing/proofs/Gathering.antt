@@ -11,7 +11,7 @@ use lib.Seq.{take_all, get_or_at}
 use Rattle.theory.specs.Tree.{Term, node, ∅}
 use Rattle.theory.specs.Table.{Table}
 use Rattle.theory.specs.Faces.{Face, facing}
-use Rattle.theory.specs.Stands.{StandsAt, start_of, size_of, putNote, Gathered, Noted}
+use Rattle.theory.specs.Stands.{StandsAt, start_of, size_of, put_note_lem, Gathered, Noted}
 use Rattle.theory.proofs.Along.{Faced}
 use Rattle.theory.proofs.Gathered.{gather_same, gather_other}
 use Rattle.theory.proofs.Noted.{put_other, put_start, put_size, note_of}
@@ -25,12 +25,12 @@ gathered_none ys own = record { count = refl; each = λ o l. absurd (not-suc-le-
 
 -- LAW: one term more, noted behind the others
 pub gathered_more : {ys own : List ℕ} {n : ℕ} {ts : List Term} → Gathered ys own n ts → 2 * n + 1 < length own
-    → (start size : ℕ) (t : Term) → StandsAt ys start size t → Gathered ys (putNote own n start size) (n + 1) (ts ++ (t ∷ []))
+    → (start size : ℕ) (t : Term) → StandsAt ys start size t → Gathered ys (put_note_lem own n start size) (n + 1) (ts ++ (t ∷ []))
 gathered_more {ys} {own} {n} {ts} g room start size t s =
     record { count = omega (arith, length-append ts (t ∷ []), g.count); each = λ o l. go o l (dec_lt o n) }
   where
     own' : List ℕ
-    own' = putNote own n start size
+    own' = put_note_lem own n start size
 
     go : (o : ℕ) → o < n + 1 → Dec (o < n) → StandsAt ys (start_of own' o) (size_of own' o) (get_or (ts ++ (t ∷ [])) o (node 0 ∅))
     go o l (yes m) =
@@ -62,7 +62,7 @@ module _ (pattern notes : List ℕ) (v : ℕ) where
 
     module _ (l : i < length pattern) where
       pub gathering_same : get_or pattern i 0 ≡ 32768 + v → 2 * n + 1 < length own
-          → Gathering pattern notes v (putNote own n (start_of notes i) (size_of notes i)) (n + 1) (i + 1)
+          → Gathering pattern notes v (put_note_lem own n (start_of notes i) (size_of notes i)) (n + 1) (i + 1)
       gathering_same e room =
           record {
             few = omega (arith, g.few);

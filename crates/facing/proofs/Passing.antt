@@ -12,12 +12,12 @@ use Rattle.theory.specs.Faces.{Face, meets, binds}
 use Rattle.theory.specs.Least.{least}
 use Rattle.theory.specs.Match.{clash, size}
 use Rattle.theory.specs.Read.{ends, walk, reading, whole}
-use Rattle.theory.specs.Stands.{putNote, Noted}
+use Rattle.theory.specs.Stands.{put_note_lem, Noted}
 use Rattle.theory.proofs.Along.{Readable, all_faces, variable_at, Along, along_start, along_symbol, along_variable, along_end, along_clash, clear_next}
 use Rattle.theory.proofs.Noted.{noted_start, noted_symbol, noted_variable}
-use Rattle.meaning.specs.File.{tableIn}
+use Rattle.meaning.specs.File.{table_in}
 use Rattle.meaning.specs.Refusals.{SoundFile}
-use Rattle.meaning.specs.Search.{symbolWorth}
+use Rattle.meaning.specs.Search.{symbol_worth}
 use Rattle.meaning.proofs.Sound.{sound}
 use Rattle.meaning.proofs.Parts.{is_term_lem}
 use Rattle.meaning.proofs.Rated.{least_last, symbols_variable}
@@ -29,8 +29,8 @@ use Rattle.terms.specs.Ends.{EndsIn}
 -- ---- lists that are read over a table
 
 -- LAW: a pattern and a heading that are read over a file's table can be gone along
-pub readable : (table xs ys : List ℕ) → SoundFile table → reading (tableIn table) true xs ≡ whole → reading (tableIn table) false ys ≡ whole
-    → Readable (tableIn table) xs ys
+pub readable : (table xs ys : List ℕ) → SoundFile table → reading (table_in table) true xs ≡ whole → reading (table_in table) false ys ≡ whole
+    → Readable (table_in table) xs ys
 readable table xs ys s p h = let t = sound table s in record { lawful = t.lawful; small = omega (arith, t.small); pattern_reads = p; heading_reads = h }
 
 -- LAW: the heading has few nodes
@@ -44,7 +44,7 @@ pub record Passing (T : Table) (cut : ℕ) (xs ys notes : List ℕ) (lowest j i 
   pub done : List Face
   pub along : Along T xs ys done i j
   pub clear : clash T cut done ≡ none
-  pub lowest_is : lowest ≡ least (symbolWorth T) done
+  pub lowest_is : lowest ≡ least (symbol_worth T) done
   pub noted : Noted ys notes done
 
 module _ {T : Table} {xs ys : List ℕ} (r : Readable T xs ys) (cut : ℕ) where
@@ -54,7 +54,7 @@ module _ {T : Table} {xs ys : List ℕ} (r : Readable T xs ys) (cut : ℕ) where
   module _ {notes : List ℕ} {lowest j i : ℕ} (p : Passing T cut xs ys notes lowest j i) where
     -- LAW: at the pattern's end all faces are passed
     pub passing_end : length xs ≤ i
-        → (clash T cut (all_faces T xs ys) ≡ none) × (lowest ≡ least (symbolWorth T) (all_faces T xs ys)) × Noted ys notes (all_faces T xs ys)
+        → (clash T cut (all_faces T xs ys) ≡ none) × (lowest ≡ least (symbol_worth T) (all_faces T xs ys)) × Noted ys notes (all_faces T xs ys)
     passing_end l = rw (← along_end r p.along l) (p.clear, p.lowest_is, p.noted)
 
     -- LAW: at each node before stands a symbol or a variable
@@ -84,7 +84,7 @@ module _ {T : Table} {xs ys : List ℕ} (r : Readable T xs ys) (cut : ℕ) where
             done = p.done ++ (x ∷ []);
             along = (along_symbol r p.along l m).on (omega arith);
             clear = clear_next T cut p.done x p.clear n;
-            lowest_is = ap (λ d. min d (symbolWorth T x)) p.lowest_is ∙ inv (least_last (symbolWorth T) p.done x);
+            lowest_is = ap (λ d. min d (symbol_worth T x)) p.lowest_is ∙ inv (least_last (symbol_worth T) p.done x);
             noted = noted_symbol p.noted (get_or xs i 0) (get_or ys j 0);
           }
 
@@ -99,7 +99,7 @@ module _ {T : Table} {xs ys : List ℕ} (r : Readable T xs ys) (cut : ℕ) where
 
       -- LAW: with a note of the subterm, which ends there, it is passed
       pub passing_variable : (end : ℕ) → walk T true ys 64 j ≡ ends end → 2 * i + 1 < length notes
-          → Passing T cut xs ys (putNote notes i j (end - j)) lowest end (i + 1)
+          → Passing T cut xs ys (put_note_lem notes i j (end - j)) lowest end (i + 1)
       passing_variable end walked room =
           let a = along_variable r p.along l m in
           let t = a.subterm in

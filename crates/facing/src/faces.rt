@@ -1,8 +1,8 @@
 // What faces the pattern's nodes in the heading.
 ghost use Rattle.std.specs.Prelude.{◌≡◌, true, false, ◌+◌, ◌*◌, ◌-◌, ◌<◌, ◌≤◌, length};
 ghost use Rattle.theory.specs.Read.{walk, ends, reading, whole};
-ghost use Rattle.theory.specs.Stands.{putNote};
-ghost use Rattle.meaning.specs.File.{tableIn};
+ghost use Rattle.theory.specs.Stands.{put_note_lem};
+ghost use Rattle.meaning.specs.File.{table_in};
 ghost use Rattle.meaning.specs.Refusals.{SoundFile};
 ghost use Rattle.degrees.specs.Rows.{Rows, RowsLaid};
 ghost use Rattle.terms.specs.Ends.{EndsIn};
@@ -28,10 +28,10 @@ const EARLY: usize = 8;
 
 // Notes the subterm of the heading that begins at this index, as what faces node i of the pattern; answers where it ends.
 fn note_subterm(table: &[u8], heading: &[u16], at: usize, notes: &mut [u16], i: usize) -> usize
-    requires sound_file { SoundFile table.now × EndsIn (tableIn table.now) true heading.now at }
+    requires sound_file { SoundFile table.now × EndsIn (table_in table.now) true heading.now at }
     requires heading_len_bound { (length heading.now ≤ 1024) × (2 * i + 1 < length notes.old) }
-    ensures at_value { walk (tableIn table.now) true heading.now 64 at ≡ ends result }
-    ensures notes_after { notes.new ≡ putNote notes.old i at (result - at) }
+    ensures at_value { walk (table_in table.now) true heading.now 64 at ≡ ends result }
+    ensures notes_after { notes.new ≡ put_note_lem notes.old i at (result - at) }
 {
     let end = end_from(table, heading, at);
     let start = at as u16;
@@ -50,8 +50,8 @@ pub fn face(
     notes: &mut [u16],
 ) -> Facing
     requires sound_file { SoundFile table.now × Rows table.now rows.old }
-    requires pattern_value { reading (tableIn table.now) true pattern.now ≡ whole }
-    requires heading_value { reading (tableIn table.now) false heading.now ≡ whole }
+    requires pattern_value { reading (table_in table.now) true pattern.now ≡ whole }
+    requires heading_value { reading (table_in table.now) false heading.now ≡ whole }
     requires cut_nonzero { (0 < cut) × (2 * length pattern.now ≤ length notes.old) }
     ensures faced_by { FacedBy table.now cut pattern.now heading.now result notes.new }
     ensures rows_laid { RowsLaid table.now rows.old rows.new }

@@ -1,6 +1,6 @@
 // The subterms that face one variable.
 ghost use Rattle.std.specs.Prelude.{◌*◌, ◌<◌, ◌≤◌, length};
-ghost use Rattle.meaning.specs.Limits.{variableCount};
+ghost use Rattle.meaning.specs.Limits.{variable_count};
 ghost use Rattle.facing.specs.Gathering.{GatheredBy};
 
 use crate::notes::{note_at, put_note};
@@ -8,7 +8,7 @@ use terms::kind::FIRST_VARIABLE;
 
 // Gathers the notes of the subterms that face variable v, one behind the other; answers how many there are.
 pub fn gather(pattern: &[u16], notes: &[u16], v: u16, own: &mut [u16]) -> usize
-    requires { (v < variableCount) × (2 * length pattern.now ≤ length notes.now) × (2 * length pattern.now ≤ length own.old) }
+    requires { (v < variable_count) × (2 * length pattern.now ≤ length notes.now) × (2 * length pattern.now ≤ length own.old) }
     ensures { GatheredBy pattern.now notes.now v result own.new }
 {
     let wanted = FIRST_VARIABLE + v;

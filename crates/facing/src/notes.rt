@@ -1,6 +1,6 @@
 // Notes of where subterms of the heading stand: two numbers for each, one behind the other in one list.
 ghost use Rattle.std.specs.Prelude.{◌≡◌, ◌+◌, ◌*◌, ◌<◌, length};
-ghost use Rattle.theory.specs.Stands.{start_of, size_of, putNote};
+ghost use Rattle.theory.specs.Stands.{start_of, size_of, put_note_lem};
 
 // Where a subterm of the heading begins, and how many nodes it has.
 #[derive(Drop)]
@@ -21,7 +21,7 @@ pub fn note_at(notes: &[u16], o: usize) -> Note
 
 pub fn put_note(notes: &mut [u16], o: usize, note: Note)
     requires { 2 * o + 1 < length notes.old }
-    ensures { notes.new ≡ putNote notes.old o note.start note.size }
+    ensures { notes.new ≡ put_note_lem notes.old o note.start note.size }
 {
     notes[2 * o] = note.start;
     notes[2 * o + 1] = note.size;

@@ -9,13 +9,13 @@ use lib.ListN.{length}
 use borrow.Author.Tests.{lt-ltb, le-ltb}
 use Rattle.theory.specs.Table.{Table}
 use Rattle.theory.specs.Read.{Walk, walk, Reading, whole, faulty, reading}
-use Rattle.meaning.specs.File.{tableIn}
-use Rattle.meaning.specs.Refusals.{Refusal as Given, refusal, Row, row, first, fault_of, row6, row7, tableRows, SoundFile}
-use Rattle.meaning.specs.Calls.{refused, gives, degree_rows, heading_degree, part, part_to, subtermRows, subterm, the_first, the_second_lem, neither, nearerRows, nearer}
+use Rattle.meaning.specs.File.{table_in}
+use Rattle.meaning.specs.Refusals.{Refusal as Given, refusal, Row, row, first, fault_of, row6, row7, table_rows, SoundFile}
+use Rattle.meaning.specs.Calls.{refused, gives, degree_rows, heading_degree, part, part_to, subterm_rows, subterm, the_first, the_second_lem, neither, nearer_rows, nearer}
 use Rattle.meaning.proofs.First.{first-append, append-none, all_silent}
 use Rattle.meaning.proofs.Trees.{whole6, whole7}
 use Rattle.meaning.proofs.Compose.{first_stays}
-use Rattle.terms.specs.Degrees.{Heading, degreeOf}
+use Rattle.terms.specs.Degrees.{Heading, degree_of}
 use Rattle.terms.proofs.Readings.{row6_is, row7_is}
 use Rattle.headings.specs.Terms.{is_whole, accepted}
 
@@ -48,7 +48,7 @@ three_lists n whole whole whole = refl
 
 module _ (table one two : List ℕ) (s : SoundFile table) where
   abbrev over : Table
-  over = tableIn table
+  over = table_in table
 
   abbrev lists : List Row
   lists = row6 over false one ∷ row7 over two ∷ []
@@ -56,95 +56,95 @@ module _ (table one two : List ℕ) (s : SoundFile table) where
   -- LAW: the first's fault refuses the call
   pub first_faulty : (place : ℕ) → reading over false one ≡ faulty place → refused 6 place ≡ heading_degree table one two
   unfolding heading_degree degree_rows
-  first_faulty place e = rw (first-append (tableRows table) lists s, row6_is over false one (faulty place) e)
+  first_faulty place e = rw (first-append (table_rows table) lists s, row6_is over false one (faulty place) e)
 
   -- LAW: .. else the second's does
   pub second_faulty : (place : ℕ) → Heading over one → reading over false two ≡ faulty place → refused 7 place ≡ heading_degree table one two
   unfolding heading_degree degree_rows
-  second_faulty place w e = rw (first-append (tableRows table) lists s, row6_is over false one whole w, row7_is over two (faulty place) e)
+  second_faulty place w e = rw (first-append (table_rows table) lists s, row6_is over false one whole w, row7_is over two (faulty place) e)
 
   -- LAW: .. else it gives their degree
-  pub both_whole : Heading over one → Heading over two → gives (degreeOf over one two) ≡ heading_degree table one two
+  pub both_whole : Heading over one → Heading over two → gives (degree_of over one two) ≡ heading_degree table one two
   unfolding heading_degree degree_rows
-  both_whole w v = rw (first-append (tableRows table) lists s, row6_is over false one whole w, row7_is over two whole v)
+  both_whole w v = rw (first-append (table_rows table) lists s, row6_is over false one whole w, row7_is over two whole v)
 
 -- ---- the subterm at an index
 
 module _ (table term : List ℕ) where
   -- LAW: what refuses the table is not accepted
-  pub term_unaccepted : (g : Given) → first (tableRows table) ≡ just g → false ≡ accepted (first (subtermRows table term))
-  unfolding subtermRows
-  term_unaccepted = refused_early (tableRows table) (row6 (tableIn table) true term ∷ [])
+  pub term_unaccepted : (g : Given) → first (table_rows table) ≡ just g → false ≡ accepted (first (subterm_rows table term))
+  unfolding subterm_rows
+  term_unaccepted = refused_early (table_rows table) (row6 (table_in table) true term ∷ [])
 
   -- LAW: a sound table accepts a list that is a term
-  pub term_accepted : SoundFile table → (a : Bool) → is_whole (reading (tableIn table) true term) ≡ a → a ≡ accepted (first (subtermRows table term))
-  unfolding subtermRows
+  pub term_accepted : SoundFile table → (a : Bool) → is_whole (reading (table_in table) true term) ≡ a → a ≡ accepted (first (subterm_rows table term))
+  unfolding subterm_rows
   term_accepted s a e =
-      let T = tableIn table in
-      rw (first-append (tableRows table) (row6 T true term ∷ []) s, row6_is T true term _ refl, one_list 6 (reading T true term), e)
+      let T = table_in table in
+      rw (first-append (table_rows table) (row6 T true term ∷ []) s, row6_is T true term _ refl, one_list 6 (reading T true term), e)
 
   -- LAW: what is not accepted has no subterm
-  pub no_subterm : accepted (first (subtermRows table term)) ≡ false → (i : ℕ) → subterm table term i ≡ part 0 0
+  pub no_subterm : accepted (first (subterm_rows table term)) ≡ false → (i : ℕ) → subterm table term i ≡ part 0 0
   unfolding subterm
-  no_subterm e i = rw (refused_some (first (subtermRows table term)) e).1
+  no_subterm e i = rw (refused_some (first (subterm_rows table term)) e).1
 
-  module _ (e : accepted (first (subtermRows table term)) ≡ true) where
+  module _ (e : accepted (first (subterm_rows table term)) ≡ true) where
     -- LAW: what is accepted is a sound table, and a term over it
-    pub term_sound : SoundFile table × (reading (tableIn table) true term ≡ whole)
-    unfolding subtermRows
+    pub term_sound : SoundFile table × (reading (table_in table) true term ≡ whole)
+    unfolding subterm_rows
     term_sound =
-        let list = row6 (tableIn table) true term ∷ [] in
-        let r = append-none (tableRows table) list (accepted-none (first (subtermRows table term)) e) in
-        (r.0, whole6 (tableIn table) true term (all_silent list r.1).0)
+        let list = row6 (table_in table) true term ∷ [] in
+        let r = append-none (table_rows table) list (accepted-none (first (subterm_rows table term)) e) in
+        (r.0, whole6 (table_in table) true term (all_silent list r.1).0)
 
     -- LAW: the subterm at an index of the list goes to where the walk from there ends
-    pub subterm_to : (i : ℕ) → i < length term → (w : Walk) → walk (tableIn table) true term 64 i ≡ w → subterm table term i ≡ part_to i w
+    pub subterm_to : (i : ℕ) → i < length term → (w : Walk) → walk (table_in table) true term 64 i ≡ w → subterm table term i ≡ part_to i w
     unfolding subterm
-    subterm_to i l w q = rw (accepted-none (first (subtermRows table term)) e, lt-ltb i (length term) l, q)
+    subterm_to i l w q = rw (accepted-none (first (subterm_rows table term)) e, lt-ltb i (length term) l, q)
 
 -- ---- the nearer of two candidates
 
 module _ (table heading one two : List ℕ) where
   abbrev T : Table
-  T = tableIn table
+  T = table_in table
 
   abbrev headings : List Row
   headings = row7 T heading ∷ row7 T one ∷ row7 T two ∷ []
 
   -- LAW: what refuses the table is not accepted
-  pub headings_unaccepted : (g : Given) → first (tableRows table) ≡ just g → false ≡ accepted (first (nearerRows table heading one two))
-  unfolding nearerRows
-  headings_unaccepted = refused_early (tableRows table) headings
+  pub headings_unaccepted : (g : Given) → first (table_rows table) ≡ just g → false ≡ accepted (first (nearer_rows table heading one two))
+  unfolding nearer_rows
+  headings_unaccepted = refused_early (table_rows table) headings
 
   -- LAW: a sound table accepts three lists that are headings
   pub headings_accepted : SoundFile table → (a b c : Bool) → is_whole (reading T false heading) ≡ a → is_whole (reading T false one) ≡ b → is_whole (reading T false two) ≡ c
-      → (a && (b && c)) ≡ accepted (first (nearerRows table heading one two))
-  unfolding nearerRows
+      → (a && (b && c)) ≡ accepted (first (nearer_rows table heading one two))
+  unfolding nearer_rows
   headings_accepted s a b c p q r =
-      rw (first-append (tableRows table) headings s, row7_is T heading _ refl, row7_is T one _ refl, row7_is T two _ refl)
+      rw (first-append (table_rows table) headings s, row7_is T heading _ refl, row7_is T one _ refl, row7_is T two _ refl)
       (rw (three_lists 7 (reading T false heading) (reading T false one) (reading T false two), p, q, r))
 
   -- LAW: where something is not accepted, neither is nearer
-  pub neither_nearer : accepted (first (nearerRows table heading one two)) ≡ false → nearer table heading one two ≡ neither
+  pub neither_nearer : accepted (first (nearer_rows table heading one two)) ≡ false → nearer table heading one two ≡ neither
   unfolding nearer
-  neither_nearer e = rw (refused_some (first (nearerRows table heading one two)) e).1
+  neither_nearer e = rw (refused_some (first (nearer_rows table heading one two)) e).1
 
-  module _ (e : accepted (first (nearerRows table heading one two)) ≡ true) where
-    silent : first (nearerRows table heading one two) ≡ none
-    silent = accepted-none (first (nearerRows table heading one two)) e
+  module _ (e : accepted (first (nearer_rows table heading one two)) ≡ true) where
+    silent : first (nearer_rows table heading one two) ≡ none
+    silent = accepted-none (first (nearer_rows table heading one two)) e
 
     pub all_sound : SoundFile table × Heading T heading × Heading T one × Heading T two
-    unfolding nearerRows
+    unfolding nearer_rows
     all_sound =
-        let r = append-none (tableRows table) headings silent in
+        let r = append-none (table_rows table) headings silent in
         let q = all_silent headings r.1 in
         (r.0, whole7 T heading q.0, whole7 T one q.1.0, whole7 T two q.1.1.0)
 
     -- LAW: the second is nearer where its degree is higher, else the first is
-    pub second_nearer : degreeOf T heading one < degreeOf T heading two → nearer table heading one two ≡ the_second_lem
+    pub second_nearer : degree_of T heading one < degree_of T heading two → nearer table heading one two ≡ the_second_lem
     unfolding nearer
-    second_nearer l = rw (silent, lt-ltb (degreeOf T heading one) (degreeOf T heading two) l)
+    second_nearer l = rw (silent, lt-ltb (degree_of T heading one) (degree_of T heading two) l)
 
-    pub first-nearer : degreeOf T heading two ≤ degreeOf T heading one → nearer table heading one two ≡ the_first
+    pub first-nearer : degree_of T heading two ≤ degree_of T heading one → nearer table heading one two ≡ the_first
     unfolding nearer
-    first-nearer l = rw (silent, le-ltb (degreeOf T heading one) (degreeOf T heading two) l)
+    first-nearer l = rw (silent, le-ltb (degree_of T heading one) (degree_of T heading two) l)

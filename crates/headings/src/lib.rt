@@ -1,12 +1,10 @@
 // What can be asked of headings and terms: the degree of two headings, the subterm at an index, the nearer of two candidates. Every call takes
 // any bytes and any lists; its answer is fixed by its promise in specs/.
-#![tactic(auto)]
-
 ghost use Rattle.std.specs.Prelude.{◌≡◌};
 ghost use Rattle.theory.specs.Read.{reading};
-ghost use Rattle.meaning.specs.File.{tableIn};
+ghost use Rattle.meaning.specs.File.{table_in};
 ghost use Rattle.meaning.specs.Refusals.{SoundFile, first as first_of};
-ghost use Rattle.meaning.specs.Calls.{subtermRows, nearerRows};
+ghost use Rattle.meaning.specs.Calls.{subterm_rows, nearer_rows};
 ghost use Rattle.headings.specs.Terms.{DegreeOfHeadings, Subterm, Nearer, Choose, is_whole, accepted};
 
 use refusal::Refusal;
@@ -83,7 +81,7 @@ pub fn choose(table: &[u8], heading: &[u16], first: &[u16], second: &[u16]) -> C
 
 // Whether neither the table nor the term is refused.
 fn accepts_term(table: &[u8], term: &[u16]) -> bool
-    ensures { result ≡ accepted (first_of (subtermRows table.now term.now)) }
+    ensures { result ≡ accepted (first_of (subterm_rows table.now term.now)) }
 {
     match check(table) {
         Checked::Refused(_) => false,
@@ -93,7 +91,7 @@ fn accepts_term(table: &[u8], term: &[u16]) -> bool
 
 // Whether neither the table nor one of the three headings is refused.
 fn accepts_headings(table: &[u8], heading: &[u16], first: &[u16], second: &[u16]) -> bool
-    ensures { result ≡ accepted (first_of (nearerRows table.now heading.now first.now second.now)) }
+    ensures { result ≡ accepted (first_of (nearer_rows table.now heading.now first.now second.now)) }
 {
     match check(table) {
         Checked::Refused(_) => false,
@@ -111,7 +109,7 @@ fn accepts_headings(table: &[u8], heading: &[u16], first: &[u16], second: &[u16]
 
 fn is_term(table: &[u8], variables: bool, list: &[u16]) -> bool
     requires { SoundFile table.now }
-    ensures { result ≡ is_whole (reading (tableIn table.now) variables list.now) }
+    ensures { result ≡ is_whole (reading (table_in table.now) variables list.now) }
 {
     match read(table, variables, list) {
         Reading::Whole => true,

@@ -13,7 +13,7 @@ use Rattle.marc.specs.ListFile.{ListFile}
 use Rattle.marc.proofs.Streams.{left_shorter}
 use Rattle.marc.proofs.Texts.{text_next, text_none}
 use Rattle.marc_input.specs.declared.rest.Rest.{Rest}
-use Rattle.marc_input.specs.Rests.{restIn, MayFollow}
+use Rattle.marc_input.specs.Rests.{rest_in, MayFollow}
 use Rattle.marc_input.specs.Passing.{uncounted}
 use Rattle.output.proofs.Saying.{passed_none, passed_then}
 use Rattle.headings_of.specs.declared.answering.Turn.{Turn}
@@ -32,36 +32,36 @@ module _ (heading absent : ℕ) (ks : List Known) where
         → SaidSo heading absent ks (k + 1) buffer' now (bytes ++ next.more) (text ++ its)
     said_on now buffer' its next = record { says = says; among = among }
       where
-        says : (beyond : List ℕ) → MayFollow now beyond → headings_text heading absent ks ((bytes ++ next.more) ++ beyond) ≡ (text ++ its) ++ from (k + 1) (restIn buffer' now ++ beyond)
+        says : (beyond : List ℕ) → MayFollow now beyond → headings_text heading absent ks ((bytes ++ next.more) ++ beyond) ≡ (text ++ its) ++ from (k + 1) (rest_in buffer' now ++ beyond)
         says beyond may =
             let n = next.next beyond may in
-            let left = restIn buffer' now ++ beyond in
-            let step = text_next heading absent ks k ((restIn buffer rest ++ next.more) ++ beyond) n.0 left n.2 in
+            let left = rest_in buffer' now ++ beyond in
+            let step = text_next heading absent ks k ((rest_in buffer rest ++ next.more) ++ beyond) n.0 left n.2 in
             ap (headings_text heading absent ks) (append_assoc bytes next.more beyond)
             ∙ so.says (next.more ++ beyond) (λ o. ap₂ ◌++◌ (next.read.may_follow o) (may (next.read.stays_over o)))
-            ∙ ap (λ s. text ++ from k s) (sym (append_assoc (restIn buffer rest) next.more beyond))
+            ∙ ap (λ s. text ++ from k s) (sym (append_assoc (rest_in buffer rest) next.more beyond))
             ∙ ap (λ s. text ++ s) (step ∙ ap (λ t. t ++ from (k + 1) left) (sym n.1))
             ∙ sym (append_assoc text its (from (k + 1) left))
 
-        among : length (restIn buffer' now) ≤ length (bytes ++ next.more)
+        among : length (rest_in buffer' now) ≤ length (bytes ++ next.more)
         among =
             let n = next.next [] (λ _. refl) in
-            let input = (restIn buffer rest ++ next.more) ++ [] in
+            let input = (rest_in buffer rest ++ next.more) ++ [] in
             omega (
               arith,
               so.among,
-              left_shorter input n.0 (restIn buffer' now ++ []) n.2,
-              ap length (append-nil (restIn buffer' now)),
-              ap length (append-nil (restIn buffer rest ++ next.more)),
-              length-append (restIn buffer rest) next.more,
+              left_shorter input n.0 (rest_in buffer' now ++ []) n.2,
+              ap length (append-nil (rest_in buffer' now)),
+              ap length (append-nil (rest_in buffer rest ++ next.more)),
+              length-append (rest_in buffer rest) next.more,
               length-append bytes next.more,
             )
 
     -- LAW: or it was the last
     said_all : (its : List ℕ) (over : NoText heading absent ks buffer rest its) → Finished heading absent ks (bytes ++ over.1.0) (text ++ its)
     said_all its (none, (more, may, ended e)) =
-        whole (ap (λ t. text ++ t) (none ∙ sym (text_none heading absent ks k (restIn buffer rest ++ more) e)) ∙ sym (so.says more may))
-    said_all its (none, (more, may, endless l)) = uncountable (omega (arith, so.among, length-append (restIn buffer rest) more, length-append bytes more))
+        whole (ap (λ t. text ++ t) (none ∙ sym (text_none heading absent ks k (rest_in buffer rest ++ more) e)) ∙ sym (so.says more may))
+    said_all its (none, (more, may, endless l)) = uncountable (omega (arith, so.among, length-append (rest_in buffer rest) more, length-append bytes more))
 
   module _ (k : ℕ) (before : List ℕ) where
     -- LAW: before the first turn nothing is read or said

@@ -9,12 +9,12 @@ use lib.ListN.{length}
 use Rattle.input.specs.Unreads.{unread}
 use Rattle.input.proofs.Unused.{length-unread}
 use Rattle.marc.specs.Known.{Known}
-use Rattle.marc.specs.Printed.{recordLine}
+use Rattle.marc.specs.Printed.{record_line}
 use Rattle.marc.proofs.LongRecords.{long_answered}
 use Rattle.marc_input.specs.declared.rest.Rest.{Rest}
 use Rattle.marc_input.specs.declared.cutting.Cut.{Cut}
 use Rattle.marc_input.specs.declared.cutting.Cut.TheVariants.{Whole, TooLong, Ended, Endless}
-use Rattle.marc_input.specs.Rests.{Held, restIn}
+use Rattle.marc_input.specs.Rests.{Held, rest_in}
 use Rattle.marc_input.specs.Passing.{NoMark, MarkBy}
 use Rattle.marc_input.specs.Cuts.{NextTo, NextBy}
 use Rattle.marc_input.proofs.Marks.{mark_there}
@@ -25,15 +25,15 @@ use Rattle.output.proofs.Saying.{passed_none}
 use Rattle.output.proofs.Turning.{Prepared, answered, unanswered, answered_behind, unanswered_behind}
 use Rattle.headings_of.specs.declared.answering.Turn.{Turn}
 use Rattle.headings_of.specs.declared.answering.Turn.TheVariants.{Stop}
-use Rattle.headings_of.specs.Texts.{recordText}
-use Rattle.headings_of.specs.Turns.{CutIn, goOn, ended, endless, CutSaid, TextOf, NoText, Waits, TurnBy}
+use Rattle.headings_of.specs.Texts.{record_text}
+use Rattle.headings_of.specs.Turns.{CutIn, go_on, ended, endless, CutSaid, TextOf, NoText, Waits, TurnBy}
 
 -- LAW: no mark is found where none stands
-pub mark_at_end : (buffer : List ℕ) (rest : Rest) (mark : ℕ) → Held buffer rest → MarkBy (restIn buffer rest) rest.at rest.end mark → NoMark (restIn buffer rest) → mark ≡ rest.end
+pub mark_at_end : (buffer : List ℕ) (rest : Rest) (mark : ℕ) → Held buffer rest → MarkBy (rest_in buffer rest) rest.at rest.end mark → NoMark (rest_in buffer rest) → mark ≡ rest.end
 mark_at_end buffer rest mark held by none = at_end (dec_lt mark rest.end)
   where
     at_end : Dec (mark < rest.end) → mark ≡ rest.end
-    at_end (yes l) = absurd (mark_there (restIn buffer rest) rest.at rest.end mark by (length-unread buffer rest.at rest.end held.1) l none)
+    at_end (yes l) = absurd (mark_there (rest_in buffer rest) rest.at rest.end mark by (length-unread buffer rest.at rest.end held.1) l none)
     at_end (no l) = omega (arith, by.inside)
 
 -- LAW: what comes next lies in the buffer
@@ -50,11 +50,11 @@ module _ (heading absent : ℕ) (ks : List Known) (k : ℕ) where
   cut_said buffer cut told before used turn after e said = subst (λ c. CutSaid heading absent ks k buffer c before used turn after) (sym e) said
 
   -- one that is too long has the text of no bytes
-  long_text : (bytes : List ℕ) → 99999 < length bytes → recordText heading absent ks k [] ≡ recordText heading absent ks k bytes
-  long_text bytes l = ap (λ t. recordLine k ++ t) (sym (long_answered heading absent ks bytes l))
+  long_text : (bytes : List ℕ) → 99999 < length bytes → record_text heading absent ks k [] ≡ record_text heading absent ks k bytes
+  long_text bytes l = ap (λ t. record_line k ++ t) (sym (long_answered heading absent ks bytes l))
 
   module _ (buffer : List ℕ) (rest : Rest) (buffer' : List ℕ) where
-    text_of : {Is : List ℕ → Type 0} (text : List ℕ) (now : Rest) → ((bytes : List ℕ) → Is bytes → text ≡ recordText heading absent ks k bytes) → NextTo Is buffer rest now buffer'
+    text_of : {Is : List ℕ → Type 0} (text : List ℕ) (now : Rest) → ((bytes : List ℕ) → Is bytes → text ≡ record_text heading absent ks k bytes) → NextTo Is buffer rest now buffer'
         → TextOf heading absent ks k buffer rest now buffer' text
     text_of text now is next = record {
       more = next.more;
@@ -64,7 +64,7 @@ module _ (heading absent : ℕ) (ks : List Known) (k : ℕ) where
 
     module _ (before : List ℕ) (used gone left : ℕ) (inside : used ≤ length before) (ready : Prepared (Waits buffer rest) before used gone left) (after : List ℕ) where
       goes : (text : List ℕ) (now : Rest) → TextOf heading absent ks k buffer rest now buffer' text → (pending : Pending) → Said before left text pending after
-          → TurnBy heading absent ks k buffer rest before used (goOn now pending) buffer' after
+          → TurnBy heading absent ks k buffer rest before used (go_on now pending) buffer' after
       goes text now is (Bytes written standing) said = answered_behind (λ t. t) inside ready (λ _ has. has) (answered (λ t. t) text is said)
       goes text now is NotWritten said = λ idle. unanswered_behind (λ t. t) inside ready (λ _ has. has) idle (unanswered (λ t. t) text (now, is) after said)
 
@@ -75,10 +75,10 @@ module _ (heading absent : ℕ) (ks : List Known) (k : ℕ) where
       pub turn_taken : (cut : Cut) → NextBy buffer rest cut buffer' → (turn : Turn) → CutSaid heading absent ks k buffer' cut before left turn after
           → TurnBy heading absent ks k buffer rest before used turn buffer' after
       turn_taken (Whole start now) (l, next) turn r =
-          let text = recordText heading absent ks k (unread buffer' start now.at) in
-          rw r.turn_is (goes text now (text_of text now (λ bytes e. ap (recordText heading absent ks k) (sym e)) next) r.pending r.said)
+          let text = record_text heading absent ks k (unread buffer' start now.at) in
+          rw r.turn_is (goes text now (text_of text now (λ bytes e. ap (record_text heading absent ks k) (sym e)) next) r.pending r.said)
       turn_taken (TooLong now) next turn r =
-          let text = recordText heading absent ks k [] in
+          let text = record_text heading absent ks k [] in
           rw r.turn_is (goes text now (text_of text now long_text next) r.pending r.said)
       turn_taken Ended (more, may, e) turn r = rw r.0 (stops (refl, (more, may, ended e)) r.1)
       turn_taken Endless (more, may, e) turn r = rw r.0 (stops (refl, (more, may, endless e)) r.1)

@@ -2,19 +2,19 @@
 use Rattle.std.specs.Prelude.{ℕ}
 
 -- No line with a record's number has more bytes, and no answer has.
-abbrev pub recordRoom : ℕ
-recordRoom = 28
+abbrev pub record_room : ℕ
+record_room = 28
 
-abbrev pub answerRoom : ℕ
-answerRoom = 35
+abbrev pub answer_room : ℕ
+answer_room = 35
 
 -- A list's file has fewer bytes, and fewer lines.
-abbrev pub listRoom : ℕ
-listRoom = 1048576
+abbrev pub list_room : ℕ
+list_room = 1048576
 
-abbrev pub linesRoom : ℕ
-linesRoom = 349526
+abbrev pub lines_room : ℕ
+lines_room = 349526
 
 -- the buffer for records
-abbrev pub inputRoom : ℕ
-inputRoom = 262144
+abbrev pub input_room : ℕ
+input_room = 262144

@@ -8,7 +8,7 @@ use Rattle.input.specs.Unreads.{unread}
 use Rattle.marc_input.specs.declared.rest.Rest.{Rest}
 use Rattle.marc_input.specs.declared.cutting.Cut.{Cut}
 use Rattle.marc_input.specs.declared.cutting.Cut.TheVariants.{Whole, TooLong, Ended, Endless}
-use Rattle.marc_input.specs.Rests.{Held, restIn, MayFollow}
+use Rattle.marc_input.specs.Rests.{Held, rest_in, MayFollow}
 use Rattle.marc_input.specs.Passing.{NoMark, uncounted}
 use Rattle.marc_input.specs.Cuts.{NextTo}
 use Rattle.output.specs.declared.pending.Pending.{Pending}
@@ -19,7 +19,7 @@ use Rattle.headings_of.specs.declared.answering.Turn.{Turn}
 use Rattle.headings_of.specs.declared.answering.Turn.TheVariants.{Go, Stop, Failed}
 use Rattle.headings_of.specs.declared.Ending.{Ending}
 use Rattle.headings_of.specs.declared.Ending.TheVariants.{BadLine, Turns}
-use Rattle.headings_of.specs.Texts.{recordText}
+use Rattle.headings_of.specs.Texts.{record_text}
 
 -- What is still to be written lies in a buffer of so many bytes.
 abbrev pub Stands : ℕ → Turn → Type 0
@@ -36,15 +36,15 @@ CutIn room (TooLong rest) = Unit {0}
 CutIn room Ended = Unit {0}
 CutIn room Endless = Unit {0}
 
-abbrev pub goOn : Rest → Pending → Turn
-goOn rest (Bytes written standing) = Go rest standing
-goOn rest NotWritten = Failed
+abbrev pub go_on : Rest → Pending → Turn
+go_on rest (Bytes written standing) = Go rest standing
+go_on rest NotWritten = Failed
 
 -- A text is said, and it goes on with these bytes.
 pub record GoesOn (text : List ℕ) (rest : Rest) (before : List ℕ) (used : ℕ) (turn : Turn) (after : List ℕ) : Type 0 where
   pub pending : Pending
   pub said : Said before used text pending after
-  pub turn_is : turn ≡ goOn rest pending
+  pub turn_is : turn ≡ go_on rest pending
 
 -- Nothing is said, and nothing comes any more.
 abbrev pub StopsAt : (before : List ℕ) → ℕ → Turn → List ℕ → Type 0
@@ -52,7 +52,7 @@ StopsAt before used turn after = (turn ≡ Stop used) × (after ≡ before)
 
 -- Where no mark stands in the bytes that are not used yet no whole record does, and it has to wait for more.
 abbrev pub Waits : List ℕ → Rest → Type 0
-Waits buffer rest = NoMark (restIn buffer rest)
+Waits buffer rest = NoMark (rest_in buffer rest)
 
 -- The input is over, or cannot be counted.
 pub data Over (input : List ℕ) : Type 0 where
@@ -62,8 +62,8 @@ pub data Over (input : List ℕ) : Type 0 where
 module _ (heading absent : ℕ) (ks : List Known) where
   -- What is said of what was cut off, where it is record k. One that is too long is not there any more: it has the text of no bytes.
   abbrev pub CutSaid : ℕ → (buffer : List ℕ) → Cut → (before : List ℕ) → ℕ → Turn → List ℕ → Type 0
-  CutSaid k buffer (Whole start rest) = GoesOn (recordText heading absent ks k (unread buffer start rest.at)) rest
-  CutSaid k buffer (TooLong rest) = GoesOn (recordText heading absent ks k []) rest
+  CutSaid k buffer (Whole start rest) = GoesOn (record_text heading absent ks k (unread buffer start rest.at)) rest
+  CutSaid k buffer (TooLong rest) = GoesOn (record_text heading absent ks k []) rest
   CutSaid k buffer Ended = StopsAt
   CutSaid k buffer Endless = StopsAt
 
@@ -71,10 +71,10 @@ module _ (heading absent : ℕ) (ks : List Known) where
 
   -- This is the text of the record that comes next, as record k, whatever may still follow; or nothing comes, and nothing is said.
   abbrev pub TextOf : ℕ → (buffer : List ℕ) → Rest → Rest → (buffer' text : List ℕ) → Type 0
-  TextOf k buffer rest now buffer' text = NextTo (λ bytes. text ≡ recordText heading absent ks k bytes) buffer rest now buffer'
+  TextOf k buffer rest now buffer' text = NextTo (λ bytes. text ≡ record_text heading absent ks k bytes) buffer rest now buffer'
 
   abbrev pub NoText : (buffer : List ℕ) → Rest → List ℕ → Type 0
-  NoText buffer rest text = (text ≡ []) × ((more : List ℕ) × MayFollow rest more × Over (restIn buffer rest ++ more))
+  NoText buffer rest text = (text ≡ []) × ((more : List ℕ) × MayFollow rest more × Over (rest_in buffer rest ++ more))
 
   -- One turn: it goes on with the bytes behind the record, or the input is over. A write fails for want of room alone, but for that of what stood in
   -- the buffer before it waits.
@@ -88,8 +88,8 @@ module _ (heading absent : ℕ) (ks : List Known) where
 
   -- What is still to be said, whatever follows, is the text of the records in the bytes that are not used yet; and these are among those that were read.
   pub record SaidSo (k : ℕ) (buffer : List ℕ) (rest : Rest) (bytes text : List ℕ) : Type 0 where
-    pub says : (beyond : List ℕ) → MayFollow rest beyond → headings_text heading absent ks (bytes ++ beyond) ≡ text ++ text_from heading absent ks k (records_in (restIn buffer rest ++ beyond))
-    pub among : length (restIn buffer rest) ≤ length bytes
+    pub says : (beyond : List ℕ) → MayFollow rest beyond → headings_text heading absent ks (bytes ++ beyond) ≡ text ++ text_from heading absent ks k (records_in (rest_in buffer rest ++ beyond))
+    pub among : length (rest_in buffer rest) ≤ length bytes
 
   -- All is said; or there were more bytes than can be counted.
   pub data Finished (bytes text : List ℕ) : Type 0 where

@@ -2,11 +2,11 @@
 ghost use Rattle.std.specs.Prelude.{◌≡◌, ◌≤◌, ◌<◌, length};
 ghost use Rattle.marc.specs.Known.{known_in};
 ghost use Rattle.known_strings.specs.Checks.{CheckedAs};
-ghost use Rattle.lines.specs.Lines.{lineRoom};
+ghost use Rattle.lines.specs.Lines.{line_room};
 ghost use Rattle.marc_input.specs.Rests.{Held};
 ghost use Rattle.marc_input.specs.Passing.{uncounted};
-ghost use Rattle.marc_input.specs.Cuts.{mostBytes};
-ghost use Rattle.headings_of.specs.Turns.{CutIn, goOn, CutSaid, TurnBy, TurnsBy};
+ghost use Rattle.marc_input.specs.Cuts.{most_bytes};
+ghost use Rattle.headings_of.specs.Turns.{CutIn, go_on, CutSaid, TurnBy, TurnsBy};
 
 use crate::say::say_record;
 use exchange::Given;
@@ -26,7 +26,7 @@ pub enum Turn {
 }
 
 fn go(rest: Rest, pending: Pending) -> Turn
-    ensures { result ≡ goOn rest pending }
+    ensures { result ≡ go_on rest pending }
 {
     match pending {
         Pending::Bytes(_, standing) => Turn::Go(rest, standing),
@@ -47,7 +47,7 @@ fn answer_next(
     used: usize,
 ) -> Turn
     requires checked_as { CheckedAs text.now ends.now numbers.now given.absent given.checked }
-    requires cut_in { CutIn (length buffer.now) cut × (used ≤ length out.old) × (lineRoom ≤ length out.old) }
+    requires cut_in { CutIn (length buffer.now) cut × (used ≤ length out.old) × (line_room ≤ length out.old) }
     ensures { CutSaid given.heading given.absent (known_in text.now ends.now numbers.now) k buffer.now cut out.old used result out.new }
 {
     match cut {
@@ -84,7 +84,7 @@ fn take_turn(
     used: usize,
 ) -> Turn
     requires checked_as { CheckedAs text.now ends.now numbers.now given.absent given.checked }
-    requires held { Held buffer.old rest × (mostBytes < length buffer.old) × (used ≤ length out.old) × (lineRoom ≤ length out.old) }
+    requires held { Held buffer.old rest × (most_bytes < length buffer.old) × (used ≤ length out.old) × (line_room ≤ length out.old) }
     ensures { TurnBy given.heading given.absent (known_in text.now ends.now numbers.now) k buffer.old rest out.old used result buffer.new out.new }
 {
     let mark = find_mark(buffer, rest.at, rest.end);
@@ -107,7 +107,7 @@ pub fn answer_all(
     out: &mut [u8],
 ) -> Turn
     requires checked_as { CheckedAs text.now ends.now numbers.now given.absent given.checked }
-    requires most_bytes_in_bounds { (mostBytes < length buffer.old) × (lineRoom ≤ length out.old) }
+    requires most_bytes_in_bounds { (most_bytes < length buffer.old) × (line_room ≤ length out.old) }
     ensures { TurnsBy given.heading given.absent (known_in text.now ends.now numbers.now) uncounted buffer.new out.old result out.new }
 {
     let mut turn = Turn::Go(

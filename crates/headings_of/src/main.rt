@@ -1,13 +1,11 @@
 // Says the headings of the exchange records on standard input, by the list of known strings in the file that the first argument names: it is read once
 // and tested once, and each record is answered or refused, by its number.
-#![tactic(auto)]
-
 ghost use Rattle.std.specs.Prelude.{◌*◌, ◌≤◌, ◌<◌, length};
 ghost use Rattle.marc.specs.Known.{known_in};
-ghost use Rattle.lines.specs.Lines.{lineRoom};
+ghost use Rattle.lines.specs.Lines.{line_room};
 ghost use Rattle.marc_input.specs.Passing.{uncounted};
-ghost use Rattle.marc_input.specs.Cuts.{mostBytes};
-ghost use Rattle.headings_of.specs.Rooms.{listRoom};
+ghost use Rattle.marc_input.specs.Cuts.{most_bytes};
+ghost use Rattle.headings_of.specs.Rooms.{list_room};
 ghost use Rattle.headings_of.specs.Turns.{TurnsBy, EndingBy, Stands};
 
 mod answering;
@@ -40,7 +38,7 @@ fn answer_listed(
     buffer: &mut [u8],
     out: &mut [u8],
 ) -> Turn
-    requires { (mostBytes < length buffer.old) × (lineRoom ≤ length out.old) }
+    requires { (most_bytes < length buffer.old) × (line_room ≤ length out.old) }
     ensures { TurnsBy heading absent (known_in text.now ends.now numbers.now) uncounted buffer.new out.old result out.new }
 {
     let checked = check_list(text, ends, numbers, absent);
@@ -63,7 +61,7 @@ fn answer_by(
 ) -> Ending
     requires file_in_bounds { (length file.now ≤ length text.old) × (length file.now < 4294967296) }
     requires file_len_bound { (length file.now ≤ 3 * length ends.old) × (length file.now ≤ 3 * length numbers.old) }
-    requires most_bytes_in_bounds { (mostBytes < length buffer.old) × (lineRoom ≤ length out.old) }
+    requires most_bytes_in_bounds { (most_bytes < length buffer.old) × (line_room ≤ length out.old) }
     ensures { EndingBy file.now out.old result buffer.new out.new }
 {
     match gather_list(file, text, ends, numbers) {
@@ -107,7 +105,7 @@ fn finish(turn: Turn, out: &[u8])
 
 // By a list's file that was read whole.
 fn serve_list(file: &[u8])
-    requires { length file.now < listRoom }
+    requires { length file.now < list_room }
 {
     let mut text = list_bytes();
     let mut ends = list_ends();

@@ -1,16 +1,16 @@
 // What is said of each record: a line with its number, and then its heading or why it has none.
 ghost use Rattle.std.specs.Prelude.{◌≡◌, [], ◌∷◌, map, ◌+◌, ◌≤◌, length};
 ghost use Rattle.meaning.specs.Refusals.{number_of, place_of};
-ghost use Rattle.meaning.specs.Program.{decimal, line, refusedWord};
+ghost use Rattle.meaning.specs.Program.{decimal, line, refused_word};
 ghost use Rattle.marc.specs.Known.{known_in};
-ghost use Rattle.marc.specs.Printed.{headingWord, longDecimal, recordLine, answerText};
+ghost use Rattle.marc.specs.Printed.{heading_word, long_decimal, record_line, answer_text};
 ghost use Rattle.exchange.specs.Said.{told};
 ghost use Rattle.known_strings.specs.Checks.{CheckedAs};
 ghost use Rattle.text.specs.Texts.{PutBy};
-ghost use Rattle.lines.specs.Lines.{lineRoom};
+ghost use Rattle.lines.specs.Lines.{line_room};
 ghost use Rattle.output.specs.Pendings.{Said};
-ghost use Rattle.headings_of.specs.Rooms.{recordRoom, answerRoom};
-ghost use Rattle.headings_of.specs.Texts.{recordText};
+ghost use Rattle.headings_of.specs.Rooms.{record_room, answer_room};
+ghost use Rattle.headings_of.specs.Texts.{record_text};
 
 use exchange::{Fault, Given, Headed, read_known};
 use output::long::put_long;
@@ -24,8 +24,8 @@ const LINE_END: u8 = b'\n';
 
 // The line with the record's number.
 fn put_record_line(k: u64, out: &mut [u8], at: usize) -> usize
-    requires { at + recordRoom ≤ length out.old }
-    ensures { PutBy out.old at (recordLine k) result out.new }
+    requires { at + record_room ≤ length out.old }
+    ensures { PutBy out.old at (record_line k) result out.new }
 {
     let word_end = put_text(out, at, b"record ");
     let number_end = put_long(out, word_end, k);
@@ -34,8 +34,8 @@ fn put_record_line(k: u64, out: &mut [u8], at: usize) -> usize
 
 // The line with the three nodes of a heading.
 fn put_heading(out: &mut [u8], at: usize, nodes: &[u16]) -> usize
-    requires { (at + answerRoom ≤ length out.old) × (3 ≡ length nodes.now) }
-    ensures { PutBy out.old at (line (headingWord ∷ map decimal nodes.now)) result out.new }
+    requires { (at + answer_room ≤ length out.old) × (3 ≡ length nodes.now) }
+    ensures { PutBy out.old at (line (heading_word ∷ map decimal nodes.now)) result out.new }
 {
     let word_end = put_text(out, at, b"heading ");
     let heading_end = put_number(out, word_end, nodes[0]);
@@ -48,8 +48,8 @@ fn put_heading(out: &mut [u8], at: usize, nodes: &[u16]) -> usize
 
 // The line with a refusal and its place.
 fn put_refusal(out: &mut [u8], at: usize, why: Fault) -> usize
-    requires { at + answerRoom ≤ length out.old }
-    ensures { PutBy out.old at (line (refusedWord ∷ decimal (number_of (told why)) ∷ longDecimal (place_of (told why)) ∷ [])) result out.new }
+    requires { at + answer_room ≤ length out.old }
+    ensures { PutBy out.old at (line (refused_word ∷ decimal (number_of (told why)) ∷ long_decimal (place_of (told why)) ∷ [])) result out.new }
 {
     let word_end = put_text(out, at, b"refused ");
     let number_end = put_number(out, word_end, why.number());
@@ -69,8 +69,8 @@ fn put_answer(
     at: usize,
 ) -> usize
     requires checked_as { CheckedAs text.now ends.now numbers.now given.absent given.checked }
-    requires answer_room_in_bounds { at + answerRoom ≤ length out.old }
-    ensures { PutBy out.old at (answerText given.heading given.absent (known_in text.now ends.now numbers.now) bytes.now) result out.new }
+    requires answer_room_in_bounds { at + answer_room ≤ length out.old }
+    ensures { PutBy out.old at (answer_text given.heading given.absent (known_in text.now ends.now numbers.now) bytes.now) result out.new }
 {
     let mut nodes = [0u16; 3];
     match read_known(bytes, text, ends, numbers, given, &mut nodes) {
@@ -91,8 +91,8 @@ pub fn say_record(
     used: usize,
 ) -> Pending
     requires checked_as { CheckedAs text.now ends.now numbers.now given.absent given.checked }
-    requires used_in_bounds { (used ≤ length out.old) × (lineRoom ≤ length out.old) }
-    ensures { Said out.old used (recordText given.heading given.absent (known_in text.now ends.now numbers.now) k bytes.now) result out.new }
+    requires used_in_bounds { (used ≤ length out.old) × (line_room ≤ length out.old) }
+    ensures { Said out.old used (record_text given.heading given.absent (known_in text.now ends.now numbers.now) k bytes.now) result out.new }
 {
     match make_room(out, used) {
         Pending::Bytes(written, at) => {

@@ -11,7 +11,7 @@ use Rattle.input.specs.declared.reading.Unread.{Unread}
 use Rattle.input.specs.declared.batch.Next.{Next}
 use Rattle.input.specs.declared.batch.Next.TheVariants.{Question, CutOff, Ended}
 use Rattle.input.specs.Unreads.{unread, ReadBy}
-use Rattle.input.specs.Coming.{lengthIn, Follows, Comes, whole, short, nothing, no_length_lem, behind}
+use Rattle.input.specs.Coming.{length_in, Follows, Comes, whole, short, nothing, no_length_lem, behind}
 use Rattle.input.specs.Found.{Found, found_in, FoundBy}
 use Rattle.input.proofs.Unused.{length-unread, unread-none, unread_split}
 
@@ -20,7 +20,7 @@ module _ (bytes : List ℕ) (at : ℕ) where
   byte_there k i l e = get_or-take (at + 4 - at) (drop at bytes) k 0 (omega arith) ∙ get_or-drop at bytes k 0 ∙ ap (λ n. get_or bytes n 0) e
 
   -- LAW: the length is that of the four bytes in the buffer
-  pub length_there : number bytes at + 65536 * number bytes (at + 2) ≡ lengthIn (unread bytes at (at + 4))
+  pub length_there : number bytes at + 65536 * number bytes (at + 2) ≡ length_in (unread bytes at (at + 4))
   length_there =
       omega (
         arith,
@@ -58,7 +58,7 @@ module _ (before : List ℕ) (at end wanted : ℕ) (read : Unread) (after : List
   no_length some l = record { lies = tt; more = r.more; comes = no_length_lem (omega (arith, many, r.rising)) (omega (arith, many)) }
 
   -- LAW: what follows the length comes next
-  pub then_follows : read.at + 4 ≤ read.end → (count : ℕ) → count ≡ lengthIn (unread after read.at (read.at + 4)) → (next : Next) (last : List ℕ)
+  pub then_follows : read.at + 4 ≤ read.end → (count : ℕ) → count ≡ length_in (unread after read.at (read.at + 4)) → (next : Next) (last : List ℕ)
       → FoundBy (Follows count) after (read.at + 4) read.end next last → FoundBy Comes before at end next last
   then_follows l count e next last f =
       let four = unread after read.at (read.at + 4) in

@@ -7,7 +7,7 @@ use native.Mathlib.Decide.{dec_lt}
 use native.Mathlib.Omega.{arith}
 use lib.ListN.{length, take, drop, length-append, take-append-drop}
 use lib.Seq.{length-take-le, take_at, drop_at}
-use Rattle.input.specs.Coming.{Coming, question, too_long_lem, cut_off_lem, ended, lengthIn, Follows, whole, over_long, short, Comes, nothing, no_length_lem, behind}
+use Rattle.input.specs.Coming.{Coming, question, too_long_lem, cut_off_lem, ended, length_in, Follows, whole, over_long, short, Comes, nothing, no_length_lem, behind}
 
 -- two ways to cut one list at one place
 module _ (bytes front rest front' rest' : List ℕ) (e : bytes ≡ front ++ rest) (e' : bytes ≡ front' ++ rest') (n : ℕ) (k : length front ≡ n) (k' : length front' ≡ n) where
@@ -42,8 +42,8 @@ comes_once bytes _ _ (no_length_lem l m) (behind four rest e k f) = absurd (omeg
 comes_once bytes _ _ (behind four rest e k f) (nothing e') = absurd (omega (arith, ap length e', longer bytes four rest e))
 comes_once bytes _ _ (behind four rest e k f) (no_length_lem l m) = absurd (omega (arith, longer bytes four rest e))
 comes_once bytes x y (behind four rest e k f) (behind four' rest' e' k' f') =
-    follows_once (lengthIn four) rest x y f
-    (subst (λ s. Follows (lengthIn s) rest y) (sym (same_front bytes four rest four' rest' e e' 4 k k')) (subst (λ s. Follows (lengthIn four') s y) (sym (same_rest bytes four rest four' rest' e e' 4 k k')) f'))
+    follows_once (length_in four) rest x y f
+    (subst (λ s. Follows (length_in s) rest y) (sym (same_front bytes four rest four' rest' e e' 4 k k')) (subst (λ s. Follows (length_in four') s y) (sym (same_rest bytes four rest four' rest' e e' 4 k k')) f'))
 
 -- ---- and something does
 
@@ -63,5 +63,5 @@ comes_some (a ∷ b ∷ []) = (cut_off_lem, no_length_lem (omega arith) (omega a
 comes_some (a ∷ b ∷ c ∷ []) = (cut_off_lem, no_length_lem (omega arith) (omega arith))
 comes_some (a ∷ b ∷ c ∷ d ∷ rest) =
     let four = a ∷ b ∷ c ∷ d ∷ [] in
-    let found = follows_some (lengthIn four) rest in
+    let found = follows_some (length_in four) rest in
     (found.0, behind four rest refl refl found.1)

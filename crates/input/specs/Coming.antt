@@ -12,8 +12,8 @@ pub data Coming : Type 0 where
   ended : Coming
 
 -- The length that four bytes say, low byte first.
-abbrev pub lengthIn : List ℕ → ℕ
-lengthIn four = number four 0 + 65536 * number four 2
+abbrev pub length_in : List ℕ → ℕ
+length_in four = number four 0 + 65536 * number four 2
 
 -- What follows a length.
 pub data Follows (count : ℕ) (bytes : List ℕ) : Coming → Type 0 where
@@ -25,4 +25,4 @@ pub data Follows (count : ℕ) (bytes : List ℕ) : Coming → Type 0 where
 pub data Comes (bytes : List ℕ) : Coming → Type 0 where
   nothing : bytes ≡ [] → Comes bytes ended
   no_length_lem : 0 < length bytes → length bytes < 4 → Comes bytes cut_off_lem
-  behind : (four rest : List ℕ) {next : Coming} → bytes ≡ four ++ rest → length four ≡ 4 → Follows (lengthIn four) rest next → Comes bytes next
+  behind : (four rest : List ℕ) {next : Coming} → bytes ≡ four ++ rest → length four ≡ 4 → Follows (length_in four) rest next → Comes bytes next

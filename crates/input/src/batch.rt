@@ -1,6 +1,6 @@
 // The batch: each question stands behind its length, four bytes with the low byte first.
 ghost use Rattle.std.specs.Prelude.{◌≡◌, ◌+◌, ◌≤◌, ◌<◌, length};
-ghost use Rattle.input.specs.Coming.{lengthIn, Follows, Comes};
+ghost use Rattle.input.specs.Coming.{length_in, Follows, Comes};
 ghost use Rattle.input.specs.Found.{FoundBy};
 ghost use Rattle.input.specs.Unreads.{unread};
 
@@ -21,7 +21,7 @@ pub enum Next {
 
 fn length_at(bytes: &[u8], at: usize) -> usize
     requires { at + 3 < length bytes.now }
-    ensures { result ≡ lengthIn (unread bytes.now at (at + 4)) }
+    ensures { result ≡ length_in (unread bytes.now at (at + 4)) }
 {
     number_at(bytes, at) as usize + 65536 * number_at(bytes, at + 2) as usize
 }

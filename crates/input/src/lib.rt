@@ -1,5 +1,3 @@
 // Bytes from standard input in large pieces, and the questions of a batch in them.
-#![tactic(auto)]
-
 pub mod batch;
 pub mod reading;

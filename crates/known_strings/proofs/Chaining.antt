@@ -17,8 +17,8 @@ use Rattle.meaning.proofs.First.{Last, last_here, last_before, last_below_lem}
 use Rattle.marc.specs.Known.{same}
 use Rattle.marc.proofs.Strings.{none_of, left_is, not_same}
 use Rattle.marc.proofs.Unfit.{some_below}
-use Rattle.known_strings.specs.Lent.{stringIn, listedAbove, badIn}
-use Rattle.known_strings.specs.Chains.{digests, digest_from, digestOf, block_size, has_digest, LinkedTo, Chained, ChainFrom, FineTo, BadFrom}
+use Rattle.known_strings.specs.Lent.{string_in, listed_above, bad_in}
+use Rattle.known_strings.specs.Chains.{digests, digest_from, digest_of, block_size, has_digest, LinkedTo, Chained, ChainFrom, FineTo, BadFrom}
 
 -- ---- digests
 
@@ -34,18 +34,18 @@ digest_ends string k sum l = ap (digest_from sum) (drop_of_length-le string l)
 module _ (text ends : List ℕ) (from : ℕ) where
   -- string k of those from entry `from` on is this string
   abbrev pub like : List ℕ → ℕ → Bool
-  like string k = same (stringIn text ends (from + k)) string
+  like string k = same (string_in text ends (from + k)) string
 
   -- one with another digest is not
-  unlike : (string : List ℕ) (k : ℕ) → has_digest text ends from (digestOf string) k ≡ false → like string k ≡ false
-  unlike string k e = not_same (stringIn text ends (from + k)) string (λ q. eqb-false (digestOf (stringIn text ends (from + k))) (digestOf string) e (ap digestOf q))
+  unlike : (string : List ℕ) (k : ℕ) → has_digest text ends from (digest_of string) k ≡ false → like string k ≡ false
+  unlike string k e = not_same (string_in text ends (from + k)) string (λ q. eqb-false (digest_of (string_in text ends (from + k))) (digest_of string) e (ap digest_of q))
 
   -- ---- along a chain
 
   -- the walk stands at the string that `next` is 1 more than, or behind the chain: none that is later on is the string sought
   pub record WalkTo (head : ℕ) (string : List ℕ) (next : ℕ) : Type 0 where
     pub within : next ≤ head
-    pub is : 0 < next → has_digest text ends from (digestOf string) (next - 1) ≡ true
+    pub is : 0 < next → has_digest text ends from (digest_of string) (next - 1) ≡ true
     pub none : (k : ℕ) → next ≤ k → k < head → like string k ≡ false
 
   module _ (head : ℕ) (links string : List ℕ) (chain : ChainFrom text ends from head links string) where
@@ -55,13 +55,13 @@ module _ (text ends : List ℕ) (from : ℕ) where
 
     module _ (next : ℕ) (some : 0 < next) (at : WalkTo head string next) where
       -- the link leads to the last string before that has the digest
-      link_is : get_or links (next - 1) 0 ≡ last_below (next - 1) (has_digest text ends from (digestOf string))
+      link_is : get_or links (next - 1) 0 ≡ last_below (next - 1) (has_digest text ends from (digest_of string))
       link_is =
           chain.linked (next - 1) (omega (arith, at.within))
           ∙ ap (λ (d : ℕ). last_below (next - 1) (has_digest text ends from d)) (eqb-true _ _ (at.is some))
 
-      last : Last (has_digest text ends from (digestOf string)) (next - 1) (get_or links (next - 1) 0)
-      last = rw link_is (last_below_lem (has_digest text ends from (digestOf string)) (next - 1))
+      last : Last (has_digest text ends from (digest_of string)) (next - 1) (get_or links (next - 1) 0)
+      last = rw link_is (last_below_lem (has_digest text ends from (digest_of string)) (next - 1))
 
       -- LAW: the walk gets nearer to the chain's end
       pub walk_less : get_or links (next - 1) 0 < next
@@ -93,9 +93,9 @@ module _ (text ends : List ℕ) (from : ℕ) where
   none_chained heads links empty = record { heads_are = λ d l. empty d; linked = below_none _ }
 
   module _ (n : ℕ) (heads links : List ℕ) (chained : Chained text ends from n heads links) (mark : ℕ) (small : mark < digests) where
-    module _ (string : List ℕ) (mark_is : mark ≡ digestOf string) where
-      head_is : Last (has_digest text ends from (digestOf string)) n (get_or heads mark 0)
-      head_is = rw (chained.heads_are mark small, mark_is) (last_below_lem (has_digest text ends from (digestOf string)) n)
+    module _ (string : List ℕ) (mark_is : mark ≡ digest_of string) where
+      head_is : Last (has_digest text ends from (digest_of string)) n (get_or heads mark 0)
+      head_is = rw (chained.heads_are mark small, mark_is) (last_below_lem (has_digest text ends from (digest_of string)) n)
 
       -- LAW: the chain of a string's digest
       pub chain_of : from + n ≤ length ends → n ≤ block_size → ChainFrom text ends from (get_or heads mark 0) links string
@@ -123,7 +123,7 @@ module _ (text ends : List ℕ) (from : ℕ) where
           go (no v) = unlike string k (head_is.none k (omega arith) l)
 
     -- LAW: one string more, linked to the head of its chain and then the head itself
-    pub chained_next : mark ≡ digestOf (stringIn text ends (from + n)) → mark < length heads → n < length links
+    pub chained_next : mark ≡ digest_of (string_in text ends (from + n)) → mark < length heads → n < length links
         → Chained text ends from (n + 1) (set heads mark (n + 1)) (set links n (get_or heads mark 0))
     chained_next mark_is head-there link-there =
         record {
@@ -141,17 +141,17 @@ module _ (text ends : List ℕ) (from : ℕ) where
             ∙ chained.heads_are d l
             ∙ inv (last_before (has_digest text ends from d) n (ne_eqb _ _ (λ e. m (mark_is ∙ e))))
 
-        at_link : get_or (set links n (get_or heads mark 0)) n 0 ≡ last_below n (has_digest text ends from (digestOf (stringIn text ends (from + n))))
+        at_link : get_or (set links n (get_or heads mark 0)) n 0 ≡ last_below n (has_digest text ends from (digest_of (string_in text ends (from + n))))
         at_link =
             get_or-set_same links n (get_or heads mark 0) 0 link-there
             ∙ chained.heads_are mark small
             ∙ ap (λ (d : ℕ). last_below n (has_digest text ends from d)) mark_is
 
   -- LAW: a string on the chain stands before, in an earlier entry
-  pub was_before : (j n : ℕ) → from + n ≤ j → some n (like (stringIn text ends j)) ≡ true → listedAbove text ends j ≡ true
+  pub was_before : (j n : ℕ) → from + n ≤ j → some n (like (string_in text ends j)) ≡ true → listed_above text ends j ≡ true
   was_before j n before found =
-      let one = some_below n (like (stringIn text ends j)) found in
-      some_of j (λ i. same (stringIn text ends i) (stringIn text ends j)) (from + one.0) (omega (arith, one.1)) one.2
+      let one = some_below n (like (string_in text ends j)) found in
+      some_of j (λ i. same (string_in text ends i) (string_in text ends j)) (from + one.0) (omega (arith, one.1)) one.2
 
 -- ---- entries gone over
 
@@ -162,7 +162,7 @@ module _ (text ends numbers : List ℕ) (absent : ℕ) where
 
   -- LAW: one more, whose number is another and whose string is none of those before it
   pub fine_next : (from upto j : ℕ) → FineTo text ends numbers absent from upto j → eqb (get_or numbers j 0) absent ≡ false
-      → ((i : ℕ) → from ≤ i → i < j → i < upto → same (stringIn text ends i) (stringIn text ends j) ≡ false) → FineTo text ends numbers absent from upto (j + 1)
+      → ((i : ℕ) → from ≤ i → i < j → i < upto → same (string_in text ends i) (string_in text ends j) ≡ false) → FineTo text ends numbers absent from upto (j + 1)
   fine_next from upto j fine number string =
       record {
         numbered = λ k l m. go_number k l (dec_lt k j) m;
@@ -173,9 +173,9 @@ module _ (text ends numbers : List ℕ) (absent : ℕ) where
       go_number k l (yes v) m = fine.numbered k l v
       go_number k l (no v) m = let q : k ≡ j = omega arith in ap (λ (k : ℕ). eqb (get_or numbers k 0) absent) q ∙ number
 
-      go_new : (k i : ℕ) → from ≤ i → i < k → i < upto → Dec (k < j) → k < j + 1 → same (stringIn text ends i) (stringIn text ends k) ≡ false
+      go_new : (k i : ℕ) → from ≤ i → i < k → i < upto → Dec (k < j) → k < j + 1 → same (string_in text ends i) (string_in text ends k) ≡ false
       go_new k i l u v (yes w) m = fine.new k i w l u v
-      go_new k i l u v (no w) m = let q : k ≡ j = omega arith in ap (λ (k : ℕ). same (stringIn text ends i) (stringIn text ends k)) q ∙ string i l (omega arith) v
+      go_new k i l u v (no w) m = let q : k ≡ j = omega arith in ap (λ (k : ℕ). same (string_in text ends i) (string_in text ends k)) q ∙ string i l (omega arith) v
 
   -- The strings before j are chained, or as many of them as a block has, and no entry before j is bad by its number or by one of these.
   pub record SoughtTo (from j : ℕ) (heads links : List ℕ) : Type 0 where
@@ -198,26 +198,26 @@ module _ (text ends numbers : List ℕ) (absent : ℕ) where
         fine = fine_none from (from + block_size);
       }
 
-  module _ (from j : ℕ) (heads links : List ℕ) (to : SoughtTo from j heads links) (mark : ℕ) (small : mark < digests) (mark_is : mark ≡ digestOf (stringIn text ends j)) where
+  module _ (from j : ℕ) (heads links : List ℕ) (to : SoughtTo from j heads links) (mark : ℕ) (small : mark < digests) (mark_is : mark ≡ digest_of (string_in text ends j)) where
     -- LAW: the chain on which string j would be
-    pub sought_on : j ≤ length ends → ChainFrom text ends from (get_or heads mark 0) links (stringIn text ends j)
-    sought_on l = chain_of text ends from to.count heads links to.chained mark small (stringIn text ends j) mark_is (omega (arith, to.within)) to.few
+    pub sought_on : j ≤ length ends → ChainFrom text ends from (get_or heads mark 0) links (string_in text ends j)
+    sought_on l = chain_of text ends from to.count heads links to.chained mark small (string_in text ends j) mark_is (omega (arith, to.within)) to.few
 
     -- LAW: string j is on it
-    pub sought_bad : j ≤ length ends → some (get_or heads mark 0) (like text ends from (stringIn text ends j)) ≡ true → badIn text ends numbers absent j ≡ true
+    pub sought_bad : j ≤ length ends → some (get_or heads mark 0) (like text ends from (string_in text ends j)) ≡ true → bad_in text ends numbers absent j ≡ true
     sought_bad l found =
-        or_left (listedAbove text ends j) (eqb (get_or numbers j 0) absent)
-        (was_before text ends from j (get_or heads mark 0) (omega (arith, to.within, chain_within text ends from to.count heads links to.chained mark small (stringIn text ends j) mark_is)) found)
+        or_left (listed_above text ends j) (eqb (get_or numbers j 0) absent)
+        (was_before text ends from j (get_or heads mark 0) (omega (arith, to.within, chain_within text ends from to.count heads links to.chained mark small (string_in text ends j) mark_is)) found)
 
-    module _ (none : some (get_or heads mark 0) (like text ends from (stringIn text ends j)) ≡ false) (number : eqb (get_or numbers j 0) absent ≡ false) where
+    module _ (none : some (get_or heads mark 0) (like text ends from (string_in text ends j)) ≡ false) (number : eqb (get_or numbers j 0) absent ≡ false) where
       fine_on : FineTo text ends numbers absent from (from + block_size) (j + 1)
       fine_on = fine_next from (from + block_size) j to.fine number (λ i l m u. go i l m u (dec_lt (i - from) to.count))
         where
-          go : (i : ℕ) → from ≤ i → i < j → i < from + block_size → Dec (i - from < to.count) → same (stringIn text ends i) (stringIn text ends j) ≡ false
+          go : (i : ℕ) → from ≤ i → i < j → i < from + block_size → Dec (i - from < to.count) → same (string_in text ends i) (string_in text ends j) ≡ false
           go i l m u (yes v) =
               let q : from + (i - from) ≡ i = omega arith in
-              ap (λ (i : ℕ). same (stringIn text ends i) (stringIn text ends j)) (inv q)
-              ∙ not_chained text ends from to.count heads links to.chained mark small (stringIn text ends j) mark_is none (i - from) v
+              ap (λ (i : ℕ). same (string_in text ends i) (string_in text ends j)) (inv q)
+              ∙ not_chained text ends from to.count heads links to.chained mark small (string_in text ends j) mark_is none (i - from) v
           go i l m u (no v) = absurd (omega (arith, to.all (omega arith)))
 
       -- LAW: string j is chained too, while the block is not full
@@ -228,7 +228,7 @@ module _ (text ends numbers : List ℕ) (absent : ℕ) where
             few = omega arith;
             within = omega arith;
             all = λ l. omega arith;
-            chained = chained_next text ends from k heads links (rw all_before at to.chained) mark small (mark_is ∙ ap (λ (j : ℕ). digestOf (stringIn text ends j)) (inv at)) head-there link-there;
+            chained = chained_next text ends from k heads links (rw all_before at to.chained) mark small (mark_is ∙ ap (λ (j : ℕ). digest_of (string_in text ends j)) (inv at)) head-there link-there;
             fine = fine_on;
           }
         where
@@ -259,20 +259,20 @@ module _ (text ends numbers : List ℕ) (absent : ℕ) where
         new = λ j i m u v w. go j i m v w (dec_lt i from);
       }
     where
-      go : (j i : ℕ) → j < r → i < j → i < upto → Dec (i < from) → same (stringIn text ends i) (stringIn text ends j) ≡ false
+      go : (j i : ℕ) → j < r → i < j → i < upto → Dec (i < from) → same (string_in text ends i) (string_in text ends j) ≡ false
       go j i m v w (yes d) = before.new j i (omega arith) (omega arith) v d
       go j i m v w (no d) = here.new j i m (omega arith) v w
 
   -- LAW: .. and what was bad behind all that it sought is bad still, if nothing before it is
-  pub bad_on : (end n r : ℕ) → r ≤ end → (r < end → badIn text ends numbers absent r ≡ true) → (end < n → badIn text ends numbers absent end ≡ true) → r < n → badIn text ends numbers absent r ≡ true
+  pub bad_on : (end n r : ℕ) → r ≤ end → (r < end → bad_in text ends numbers absent r ≡ true) → (end < n → bad_in text ends numbers absent end ≡ true) → r < n → bad_in text ends numbers absent r ≡ true
   bad_on end n r l here behind m = go (dec_lt r end)
     where
-      go : Dec (r < end) → badIn text ends numbers absent r ≡ true
+      go : Dec (r < end) → bad_in text ends numbers absent r ≡ true
       go (yes v) = here v
-      go (no v) = let q : r ≡ end = omega arith in ap (badIn text ends numbers absent) q ∙ behind (omega arith)
+      go (no v) = let q : r ≡ end = omega arith in ap (bad_in text ends numbers absent) q ∙ behind (omega arith)
 
   -- LAW: all blocks
-  pub fine_all : (upto end : ℕ) → FineTo text ends numbers absent 0 upto end → end ≤ upto → (j : ℕ) → j < end → badIn text ends numbers absent j ≡ false
+  pub fine_all : (upto end : ℕ) → FineTo text ends numbers absent 0 upto end → end ≤ upto → (j : ℕ) → j < end → bad_in text ends numbers absent j ≡ false
   fine_all upto end fine l j m =
-      rw (none_of j (λ i. same (stringIn text ends i) (stringIn text ends j)) (λ i u. fine.new j i m (omega arith) u (omega arith)))
+      rw (none_of j (λ i. same (string_in text ends i) (string_in text ends j)) (λ i u. fine.new j i m (omega arith) u (omega arith)))
       (fine.numbered j (omega arith) m)

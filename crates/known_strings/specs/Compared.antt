@@ -5,9 +5,9 @@ use Rattle.known_strings.specs.declared.compare.Order.{Order}
 use Rattle.known_strings.specs.declared.compare.Order.TheVariants.{Before, Same, After}
 
 -- the number that n bytes write, the first the highest
-abbrev pub writtenAt : List ℕ → ℕ → ℕ → ℕ
-writtenAt bytes at zero = 0
-writtenAt bytes at (suc n) = writtenAt bytes at n * 256 + get_or bytes (at + n) 0
+abbrev pub written_at : List ℕ → ℕ → ℕ → ℕ
+written_at bytes at zero = 0
+written_at bytes at (suc n) = written_at bytes at n * 256 + get_or bytes (at + n) 0
 
 abbrev pub ComparedAs : List ℕ → List ℕ → Order → Type 0
 ComparedAs one two Before = before one two ≡ true

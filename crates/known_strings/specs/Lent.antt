@@ -8,28 +8,28 @@ use Rattle.known_strings.specs.declared.seek.Sought.{Sought}
 use Rattle.known_strings.specs.declared.seek.Sought.TheVariants.{Number, Unlisted}
 
 -- where string j begins: where the one before it ends
-abbrev pub beginOf : List ℕ → ℕ → ℕ
-beginOf ends zero = 0
-beginOf ends (suc j) = get_or ends j 0
+abbrev pub begin_of_lem : List ℕ → ℕ → ℕ
+begin_of_lem ends zero = 0
+begin_of_lem ends (suc j) = get_or ends j 0
 
 -- the bytes from one place to another
-abbrev pub partIn : List ℕ → ℕ → ℕ → List ℕ
-partIn text start end = take (end - start) (drop start text)
+abbrev pub part_in : List ℕ → ℕ → ℕ → List ℕ
+part_in text start end = take (end - start) (drop start text)
 
-unfoldable pub stringIn : List ℕ → List ℕ → ℕ → List ℕ
-stringIn text ends j = partIn text (beginOf ends j) (get_or ends j 0)
+unfoldable pub string_in : List ℕ → List ℕ → ℕ → List ℕ
+string_in text ends j = part_in text (begin_of_lem ends j) (get_or ends j 0)
 
-abbrev pub soughtIn : Sought → Option ℕ
-soughtIn (Number n) = just n
-soughtIn Unlisted = none
+abbrev pub sought_in : Sought → Option ℕ
+sought_in (Number n) = just n
+sought_in Unlisted = none
 
 -- each of the first n strings stands before the next
 abbrev pub RisesTo : List ℕ → List ℕ → ℕ → Type 0
-RisesTo text ends = Rises (stringIn text ends)
+RisesTo text ends = Rises (string_in text ends)
 
 -- string j was listed before
-abbrev pub listedAbove : List ℕ → List ℕ → ℕ → Bool
-listedAbove text ends j = some j (λ i. same (stringIn text ends i) (stringIn text ends j))
+abbrev pub listed_above : List ℕ → List ℕ → ℕ → Bool
+listed_above text ends j = some j (λ i. same (string_in text ends i) (string_in text ends j))
 
-abbrev pub badIn : List ℕ → List ℕ → List ℕ → ℕ → ℕ → Bool
-badIn text ends numbers absent j = listedAbove text ends j || eqb (get_or numbers j 0) absent
+abbrev pub bad_in : List ℕ → List ℕ → List ℕ → ℕ → ℕ → Bool
+bad_in text ends numbers absent j = listed_above text ends j || eqb (get_or numbers j 0) absent

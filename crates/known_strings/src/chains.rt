@@ -1,11 +1,11 @@
 // Which entry of a long list in any order may not be listed. Strings are chained by a digest of their bytes, as many at a time as there is memory for,
 // and each string is held against those of its own digest alone; strings behind a block are sought in its chains too, and then chained with their own.
 ghost use Rattle.std.specs.Prelude.{◌≡◌, ◌+◌, ◌≤◌, ◌<◌, length};
-ghost use Rattle.theory.specs.Least.{some, leastBelow};
+ghost use Rattle.theory.specs.Least.{some, least_below};
 ghost use Rattle.table.specs.Places.{place_in};
 ghost use Rattle.marc.specs.Known.{same};
-ghost use Rattle.known_strings.specs.Lent.{stringIn, badIn};
-ghost use Rattle.known_strings.specs.Chains.{digests, digestOf, ChainFrom, BadFrom};
+ghost use Rattle.known_strings.specs.Lent.{string_in, bad_in};
+ghost use Rattle.known_strings.specs.Chains.{digests, digest_of, ChainFrom, BadFrom};
 
 use crate::compare::same_bytes;
 use crate::list::string_at;
@@ -22,7 +22,7 @@ const UNWRITTEN: u16 = 1;
 
 // A number that is the same for the same bytes, and seldom for others.
 fn digest(string: &[u8]) -> usize
-    ensures { (result ≡ digestOf string.now) × (result < digests) }
+    ensures { (result ≡ digest_of string.now) × (result < digests) }
 {
     let n = string.len();
     let mut sum: usize = 0;
@@ -44,7 +44,7 @@ fn is_chained(
     string: &[u8],
 ) -> bool
     requires { ChainFrom text.now ends.now from head links.now string.now }
-    ensures { result ≡ some head (λ k. same (stringIn text.now ends.now (from + k)) string.now) }
+    ensures { result ≡ some head (λ k. same (string_in text.now ends.now (from + k)) string.now) }
 {
     let mut next = head as usize;
     while next > 0 {
@@ -95,7 +95,7 @@ fn bad_from(
 // The first of many entries that is bad: none before it is, whichever block the same string stands in.
 pub fn bad_of_many(text: &[u8], ends: &[u32], numbers: &[u16], absent: u16, n: usize) -> Place
     requires { (n ≤ length ends.now) × (n ≤ length numbers.now) }
-    ensures { place_in result ≡ leastBelow n (badIn text.now ends.now numbers.now absent) }
+    ensures { place_in result ≡ least_below n (bad_in text.now ends.now numbers.now absent) }
 {
     let mut from: usize = 0;
     let mut end = bad_from(text, ends, numbers, absent, from, n);

@@ -1,6 +1,6 @@
 // The test of a list: which entry may not be listed, and whether the strings rise. Where they do none stands twice, and only the numbers are tested.
 ghost use Rattle.std.specs.Prelude.{◌≡◌, true, ◌≤◌, eqb, length, get_or};
-ghost use Rattle.theory.specs.Least.{leastBelow};
+ghost use Rattle.theory.specs.Least.{least_below};
 ghost use Rattle.table.specs.Places.{place_in};
 ghost use Rattle.known_strings.specs.Lent.{RisesTo};
 ghost use Rattle.known_strings.specs.Checks.{CheckedAs};
@@ -47,7 +47,7 @@ fn rises(text: &[u8], ends: &[u32], n: usize) -> bool
 // The first of n numbers that is that of absent dates.
 fn absent_entry(numbers: &[u16], n: usize, absent: u16) -> Place
     requires { n ≤ length numbers.now }
-    ensures { place_in result ≡ leastBelow n (λ j. eqb (get_or numbers.now j 0) absent) }
+    ensures { place_in result ≡ least_below n (λ j. eqb (get_or numbers.now j 0) absent) }
 {
     let mut j: usize = 0;
     while j < n {

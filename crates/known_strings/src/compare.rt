@@ -1,7 +1,7 @@
 // Two strings of bytes: whether they are the same, and which stands before the other.
 ghost use Rattle.std.specs.Prelude.{◌≡◌, ◌+◌, ◌≤◌, ◌<◌, min, length, drop};
 ghost use Rattle.marc.specs.Known.{same};
-ghost use Rattle.known_strings.specs.Compared.{writtenAt, ComparedAs};
+ghost use Rattle.known_strings.specs.Compared.{written_at, ComparedAs};
 
 // Where one string stands by another: byte by byte, and one that ends first stands first.
 #[derive(Drop)]
@@ -32,14 +32,14 @@ pub fn same_bytes(one: &[u8], two: &[u8]) -> bool
 // The number that two, four bytes write, the first the highest: as the bytes stand by others, so do the numbers.
 fn two_at(bytes: &[u8], at: usize) -> u32
     requires { at + 2 ≤ length bytes.now }
-    ensures { (result ≡ writtenAt bytes.now at 2) × (result < 65536) }
+    ensures { (result ≡ written_at bytes.now at 2) × (result < 65536) }
 {
     bytes[at] as u32 * 256 + bytes[at + 1] as u32
 }
 
 fn four_at(bytes: &[u8], at: usize) -> u32
     requires { at + 4 ≤ length bytes.now }
-    ensures { result ≡ writtenAt bytes.now at 4 }
+    ensures { result ≡ written_at bytes.now at 4 }
 {
     two_at(bytes, at) * 65536 + two_at(bytes, at + 2)
 }

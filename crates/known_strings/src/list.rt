@@ -1,11 +1,11 @@
 // The list as it is lent: all strings one behind the other, where each ends, and the numbers.
 ghost use Rattle.std.specs.Prelude.{◌≡◌, ◌≤◌, ◌<◌, length};
 ghost use Rattle.marc.specs.Known.{known_in};
-ghost use Rattle.known_strings.specs.Lent.{beginOf, partIn, stringIn};
+ghost use Rattle.known_strings.specs.Lent.{begin_of_lem, part_in, string_in};
 
 // The bytes of a text from one place to another: what lies behind its last byte is not there, and an end below its beginning gives the empty string.
 pub fn part<'a>(text: &'a [u8], start: usize, end: usize) -> &'a [u8]
-    ensures { result.now ≡ partIn text.now start end }
+    ensures { result.now ≡ part_in text.now start end }
 {
     let n = text.len();
     if end <= n {
@@ -23,7 +23,7 @@ pub fn part<'a>(text: &'a [u8], start: usize, end: usize) -> &'a [u8]
 // Where string j begins.
 fn begin_of(ends: &[u32], j: usize) -> usize
     requires { j < length ends.now }
-    ensures { result ≡ beginOf ends.now j }
+    ensures { result ≡ begin_of_lem ends.now j }
 {
     if j == 0 {
         return 0;
@@ -34,7 +34,7 @@ fn begin_of(ends: &[u32], j: usize) -> usize
 // String j.
 pub fn string_at<'a>(text: &'a [u8], ends: &[u32], j: usize) -> &'a [u8]
     requires { j < length ends.now }
-    ensures { result.now ≡ stringIn text.now ends.now j }
+    ensures { result.now ≡ string_in text.now ends.now j }
 {
     part(text, begin_of(ends, j), ends[j] as usize)
 }

@@ -1,7 +1,7 @@
 // The number of a string: sought by halving where the strings rise, and by one walk in any other list.
 ghost use Rattle.std.specs.Prelude.{◌≡◌, length};
 ghost use Rattle.marc.specs.Known.{known_in, number_in};
-ghost use Rattle.known_strings.specs.Lent.{soughtIn, RisesTo};
+ghost use Rattle.known_strings.specs.Lent.{sought_in, RisesTo};
 ghost use Rattle.known_strings.specs.Checks.{MayHalve};
 
 use crate::check::Checked;
@@ -16,7 +16,7 @@ pub enum Sought {
 
 // By one walk.
 fn walk(text: &[u8], ends: &[u32], numbers: &[u16], string: &[u8]) -> Sought
-    ensures { soughtIn result ≡ number_in (known_in text.now ends.now numbers.now) string.now }
+    ensures { sought_in result ≡ number_in (known_in text.now ends.now numbers.now) string.now }
 {
     let n = count(ends, numbers);
     let mut start: usize = 0;
@@ -35,7 +35,7 @@ fn walk(text: &[u8], ends: &[u32], numbers: &[u16], string: &[u8]) -> Sought
 // By halving: what is below `low` stands before the string, what is from `high` on stands after it.
 fn halve(text: &[u8], ends: &[u32], numbers: &[u16], string: &[u8]) -> Sought
     requires { RisesTo text.now ends.now (length (known_in text.now ends.now numbers.now)) }
-    ensures { soughtIn result ≡ number_in (known_in text.now ends.now numbers.now) string.now }
+    ensures { sought_in result ≡ number_in (known_in text.now ends.now numbers.now) string.now }
 {
     let mut low: usize = 0;
     let mut high = count(ends, numbers);
@@ -65,7 +65,7 @@ pub fn number_of(
     string: &[u8],
 ) -> Sought
     requires { MayHalve text.now ends.now numbers.now checked }
-    ensures { soughtIn result ≡ number_in (known_in text.now ends.now numbers.now) string.now }
+    ensures { sought_in result ≡ number_in (known_in text.now ends.now numbers.now) string.now }
 {
     match checked {
         Checked::Rising => halve(text, ends, numbers, string),

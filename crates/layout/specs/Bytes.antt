@@ -3,6 +3,6 @@ use Rattle.std.specs.Prelude.{List, [], ◌∷◌, ◌++◌, ℕ}
 use Rattle.meaning.specs.File.{bytes_of}
 
 -- Every number's two bytes.
-abbrev pub numbersBytes : List ℕ → List ℕ
-numbersBytes [] = []
-numbersBytes (n ∷ ns) = bytes_of n ++ numbersBytes ns
+abbrev pub numbers_bytes : List ℕ → List ℕ
+numbers_bytes [] = []
+numbers_bytes (n ∷ ns) = bytes_of n ++ numbers_bytes ns

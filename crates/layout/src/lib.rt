@@ -1,11 +1,9 @@
 // The bytes of a table file, laid over what was there part by part.
-#![tactic(auto)]
-
 ghost use Rattle.std.specs.Prelude.{◌≡◌, ◌+◌, ◌*◌, ◌≤◌, length};
-ghost use Rattle.meaning.specs.Limits.{mostSymbols, mostPairs};
+ghost use Rattle.meaning.specs.Limits.{most_symbols, most_pairs};
 ghost use Rattle.meaning.specs.File.{bytes_of, header};
 ghost use Rattle.meaning.specs.Over.{over};
-ghost use Rattle.layout.specs.Bytes.{numbersBytes};
+ghost use Rattle.layout.specs.Bytes.{numbers_bytes};
 
 // A number's two bytes, the low one first.
 pub fn put_number(output: &mut [u8], at: usize, n: u16)
@@ -17,7 +15,7 @@ pub fn put_number(output: &mut [u8], at: usize, n: u16)
 }
 
 pub fn put_header(output: &mut [u8], symbols: usize, pairs: usize)
-    requires { (symbols ≤ mostSymbols) × (pairs ≤ mostPairs) × (10 ≤ length output.old) }
+    requires { (symbols ≤ most_symbols) × (pairs ≤ most_pairs) × (10 ≤ length output.old) }
     ensures { output.new ≡ over output.old 0 (header symbols pairs) }
 {
     let pairs_at = 10 + symbols;
@@ -44,7 +42,7 @@ pub fn put_arities(output: &mut [u8], arities: &[u8])
 // Every number, one behind the other from `at` on.
 pub fn put_numbers(output: &mut [u8], at: usize, numbers: &[u16])
     requires { at + 2 * length numbers.now ≤ length output.old }
-    ensures { output.new ≡ over output.old at (numbersBytes numbers.now) }
+    ensures { output.new ≡ over output.old at (numbers_bytes numbers.now) }
 {
     let n = numbers.len();
     let mut i: usize = 0;

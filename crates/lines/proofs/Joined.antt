@@ -11,12 +11,12 @@ use lib.Dec.{eqb}
 use lib.ListN.{length, get_or, length-append}
 use borrow.Author.Tests.{eq-eqb, ne_eqb, lt-ltb, le-ltb}
 use Rattle.theory.specs.Least.{collect}
-use Rattle.meaning.specs.Limits.{word_bits, setWords, setRoom}
+use Rattle.meaning.specs.Limits.{word_bits, set_words_lem, set_room}
 use Rattle.meaning.specs.Buffers.{bit, member, holds}
 use Rattle.meaning.specs.Program.{digits, decimal, line}
 use Rattle.sets.specs.Words.{NoneBetween}
 use Rattle.text.specs.Texts.{PutBy, numeral}
-use Rattle.lines.specs.Lines.{symbolsLine}
+use Rattle.lines.specs.Lines.{symbols_line}
 use Rattle.text.proofs.Puts.{put_then, digits_front}
 
 abbrev joined : List (List ℕ) → List ℕ
@@ -102,19 +102,19 @@ module _ (sets : List ℕ) (p : ℕ) where
       let next : from + suc n ≡ from + n + 1 = omega arith in
       ap (symbols_below sets p) next ∙ symbols_same (from + n) (none (from + n) (omega arith) (omega arith)) ∙ symbols_skip from n (λ j l m. none j l (omega arith))
 
-  module _ (words : List ℕ) (read : (w : ℕ) → w < setWords → get_or words w 0 ≡ get_or sets (setWords * p + w) 0) where
+  module _ (words : List ℕ) (read : (w : ℕ) → w < set_words_lem → get_or words w 0 ≡ get_or sets (set_words_lem * p + w) 0) where
     -- LAW: words that are read from the position have the members that it has
-    pub held : (k : ℕ) → k < setRoom → holds sets p k ≡ member words k
+    pub held : (k : ℕ) → k < set_room → holds sets p k ≡ member words k
     unfolding holds member
     held k l = ap (bit (k % word_bits)) (sym (read (k / word_bits) (omega arith)))
 
     -- LAW: all symbols up to the next member are passed over
-    pub symbols_next : (from to : ℕ) → from ≤ to → to ≤ setRoom → NoneBetween words from to → symbols_below sets p to ≡ symbols_below sets p from
+    pub symbols_next : (from to : ℕ) → from ≤ to → to ≤ set_room → NoneBetween words from to → symbols_below sets p to ≡ symbols_below sets p from
     symbols_next from to l m none =
         let e : to ≡ from + (to - from) = omega arith in
         ap (symbols_below sets p) e ∙ symbols_skip from (to - from) (λ j a b. held j (omega arith) ∙ none j a (omega arith))
 
   -- LAW: all of them make the line
-  pub symbols_all : symbolsLine sets p ≡ symbols_below sets p setRoom ++ (10 ∷ [])
-  unfolding symbolsLine symbols_below
-  symbols_all = line-joined (map decimal (collect setRoom (holds sets p)))
+  pub symbols_all : symbols_line sets p ≡ symbols_below sets p set_room ++ (10 ∷ [])
+  unfolding symbols_line symbols_below
+  symbols_all = line-joined (map decimal (collect set_room (holds sets p)))

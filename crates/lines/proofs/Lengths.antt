@@ -10,16 +10,16 @@ use native.Mathlib.Omega.{arith}
 use lib.Dec.{ltb}
 use lib.ListN.{length, length-append}
 use Rattle.theory.specs.Least.{collect}
-use Rattle.meaning.specs.Limits.{setRoom, variableCount}
-use Rattle.meaning.specs.Buffers.{firstPosition, positionCount, ownLowest, ownHighest, holds}
+use Rattle.meaning.specs.Limits.{set_room, variable_count}
+use Rattle.meaning.specs.Buffers.{first_position_lem, position_count_lem, own_lowest_lem, own_highest_lem, holds}
 use Rattle.meaning.specs.Refusals.{number_of, place_of}
-use Rattle.meaning.specs.Program.{digits, decimal, line, match_word, refusedWord, variable_word, variable_lines}
+use Rattle.meaning.specs.Program.{digits, decimal, line, match_word, refused_word, variable_word, variable_lines}
 use Rattle.refusal.specs.declared.Outcome.{Outcome}
 use Rattle.refusal.specs.declared.Outcome.TheVariants.{Match, Refused}
 use Rattle.refusal.specs.Told.{told}
 use Rattle.refusal.specs.Outcomes.{result_of}
-use Rattle.lines.specs.Lines.{lineRoom, textIn, outcomeLine, variableLine, symbolsLine, upward, following, positions_from, rest_at, Spanned}
-use Rattle.lines.specs.Lengths.{most_positions, mostSets, most_text}
+use Rattle.lines.specs.Lines.{line_room, text_in, outcome_line, variable_line, symbols_line, upward, following, positions_from, rest_at, Spanned}
+use Rattle.lines.specs.Lengths.{most_positions, most_sets, most_text}
 use Rattle.lines.proofs.Rest.{some_lines, no_lines, rest_start}
 
 -- ---- one line
@@ -48,20 +48,20 @@ line_short [] = omega arith
 line_short (f ∷ []) = omega (arith, length-append f (10 ∷ []))
 line_short (f ∷ g ∷ fs) = omega (arith, length-append f (32 ∷ line (g ∷ fs)), line_short (g ∷ fs))
 
-outcome_short : (outcome : Outcome) → length (outcomeLine outcome) ≤ lineRoom
-unfolding outcomeLine
+outcome_short : (outcome : Outcome) → length (outcome_line outcome) ≤ line_room
+unfolding outcome_line
 outcome_short (Match low high) = omega (arith, line_short (match_word ∷ decimal low ∷ decimal high ∷ []), decimal_short low, decimal_short high)
 outcome_short (Refused why) =
     let n = number_of (told why) in
     let place = place_of (told why) in
-    omega (arith, line_short (refusedWord ∷ decimal n ∷ decimal place ∷ []), decimal_short n, decimal_short place)
+    omega (arith, line_short (refused_word ∷ decimal n ∷ decimal place ∷ []), decimal_short n, decimal_short place)
 
-variable_short : (spans : List ℕ) (v : ℕ) → length (variableLine spans v) ≤ lineRoom
-unfolding variableLine
+variable_short : (spans : List ℕ) (v : ℕ) → length (variable_line spans v) ≤ line_room
+unfolding variable_line
 variable_short spans v =
-    let count = positionCount spans v in
-    let low = ownLowest spans v in
-    let high = ownHighest spans v in
+    let count = position_count_lem spans v in
+    let low = own_lowest_lem spans v in
+    let high = own_highest_lem spans v in
     omega (arith, line_short (variable_word v ∷ decimal count ∷ decimal low ∷ decimal high ∷ []), decimal_short v, decimal_short count, decimal_short low, decimal_short high)
 
 numbers_short : (xs : List ℕ) → total (map decimal xs) + length (map decimal xs) ≤ 6 * length xs
@@ -76,11 +76,11 @@ collect_few (suc n) b = go (b n) (collect_few n b)
     go true l = omega (arith, length-append (collect n b) (n ∷ []))
     go false l = omega (arith, length-append (collect n b) [])
 
-symbols_short : (sets : List ℕ) (p : ℕ) → length (symbolsLine sets p) ≤ lineRoom
-unfolding symbolsLine
+symbols_short : (sets : List ℕ) (p : ℕ) → length (symbols_line sets p) ≤ line_room
+unfolding symbols_line
 symbols_short sets p =
-    let xs = collect setRoom (holds sets p) in
-    omega (arith, line_short (map decimal xs), numbers_short xs, collect_few setRoom (holds sets p))
+    let xs = collect set_room (holds sets p) in
+    omega (arith, line_short (map decimal xs), numbers_short xs, collect_few set_room (holds sets p))
 
 -- ---- all lines
 
@@ -89,26 +89,26 @@ upward_short f b i zero short = omega arith
 upward_short f b i (suc n) short =
     omega (arith, length-append (f i) (upward (suc i) n f), short i (omega arith), upward_short f b (suc i) n (λ j l. short j (omega arith)), suc-mul n b)
 
-module _ (outcome : Outcome) (spans sets : List ℕ) (spanned : Spanned spans sets) (few : length sets ≤ mostSets) where
-  lines_short : (v : ℕ) → v < variableCount → length (variable_lines (result_of outcome spans sets) v) ≤ lineRoom * (1 + most_positions)
-  lines_short v l = go (dec_lt 0 (positionCount spans v))
+module _ (outcome : Outcome) (spans sets : List ℕ) (spanned : Spanned spans sets) (few : length sets ≤ most_sets) where
+  lines_short : (v : ℕ) → v < variable_count → length (variable_lines (result_of outcome spans sets) v) ≤ line_room * (1 + most_positions)
+  lines_short v l = go (dec_lt 0 (position_count_lem spans v))
     where
-      go : Dec (0 < positionCount spans v) → length (variable_lines (result_of outcome spans sets) v) ≤ lineRoom * (1 + most_positions)
+      go : Dec (0 < position_count_lem spans v) → length (variable_lines (result_of outcome spans sets) v) ≤ line_room * (1 + most_positions)
       go (yes m) =
-          let own = variableLine spans v in
+          let own = variable_line spans v in
           let rest = positions_from spans sets v 0 in
-          let each = upward_short (λ k. symbolsLine sets (firstPosition spans v + k)) lineRoom 0 (positionCount spans v - 0) (λ k n. symbols_short sets (firstPosition spans v + k)) in
+          let each = upward_short (λ k. symbols_line sets (first_position_lem spans v + k)) line_room 0 (position_count_lem spans v - 0) (λ k n. symbols_short sets (first_position_lem spans v + k)) in
           omega (arith, ap length (some_lines outcome spans sets v m), length-append own rest, variable_short spans v, each, spanned.sets_there v l)
       go (no m) = omega (arith, ap length (no_lines outcome spans sets v (omega arith)))
 
 -- LAW: no answer is longer
-pub text_short : (outcome : Outcome) (spans sets : List ℕ) → Spanned spans sets → length sets ≤ mostSets → length (textIn (result_of outcome spans sets)) ≤ most_text
+pub text_short : (outcome : Outcome) (spans sets : List ℕ) → Spanned spans sets → length sets ≤ most_sets → length (text_in (result_of outcome spans sets)) ≤ most_text
 unfolding rest_at
 text_short (Match low high) spans sets spanned few =
     let r = result_of (Match low high) spans sets in
-    let own = outcomeLine (Match low high) in
+    let own = outcome_line (Match low high) in
     let rest = following (Match low high) spans sets in
-    let all = upward_short (variable_lines r) (lineRoom * (1 + most_positions)) 0 variableCount (λ v l. lines_short (Match low high) spans sets spanned few v (omega arith)) in
+    let all = upward_short (variable_lines r) (line_room * (1 + most_positions)) 0 variable_count (λ v l. lines_short (Match low high) spans sets spanned few v (omega arith)) in
     omega (arith, ap length (rest_start (Match low high) spans sets), length-append own rest, outcome_short (Match low high), all)
 text_short (Refused why) spans sets spanned few =
-    omega (arith, ap length (rest_start (Refused why) spans sets), length-append (outcomeLine (Refused why)) [], outcome_short (Refused why))
+    omega (arith, ap length (rest_start (Refused why) spans sets), length-append (outcome_line (Refused why)) [], outcome_short (Refused why))

@@ -12,12 +12,12 @@ use lib.Dec.{eqb, ltb}
 use lib.ListN.{length, length-append}
 use borrow.Author.Tests.{eq-eqb, ne_eqb, lt-ltb, le-ltb}
 use Rattle.theory.specs.Least.{collect}
-use Rattle.meaning.specs.Limits.{setRoom, variableCount}
+use Rattle.meaning.specs.Limits.{set_room, variable_count}
 use Rattle.meaning.specs.Packing.{through}
 use Rattle.meaning.specs.Refusals.{Refusal, refusal, number_of, place_of}
 use Rattle.meaning.specs.Calls.{Matched, refused_as}
-use Rattle.meaning.specs.Buffers.{firstPosition, positionCount, ownLowest, ownHighest, holds}
-use Rattle.meaning.specs.Program.{decimal, match_word, refusedWord, variable_word, variable_lines, refusedText, text_of}
+use Rattle.meaning.specs.Buffers.{first_position_lem, position_count_lem, own_lowest_lem, own_highest_lem, holds}
+use Rattle.meaning.specs.Program.{decimal, match_word, refused_word, variable_word, variable_lines, refused_text, text_of}
 use Rattle.refusal.specs.declared.Outcome.{Outcome}
 use Rattle.refusal.specs.declared.Outcome.TheVariants.{Match, Refused}
 use Rattle.refusal.specs.Told.{told}
@@ -25,15 +25,15 @@ use Rattle.refusal.specs.Outcomes.{result_of}
 use Rattle.lines.specs.declared.line.Cursor.{Cursor}
 use Rattle.lines.specs.declared.line.Cursor.TheVariants.{First, Variable, Position, End}
 use Rattle.lines.specs.Lines.{
-  textIn,
-  outcomeLine,
-  variableLine,
-  symbolsLine,
+  text_in,
+  outcome_line,
+  variable_line,
+  symbols_line,
   line_at,
   seek_in,
-  seekFrom,
-  afterOutcome,
-  afterPosition,
+  seek_from,
+  after_outcome_lem,
+  after_position_lem,
   next_cursor,
   OnLine,
   lines_from,
@@ -75,58 +75,58 @@ module _ (outcome : Outcome) (spans sets : List ℕ) where
   rest = rest_at outcome spans sets
 
   -- the lines of a variable that has positions, and of one that has none
-  pub some_lines : (v : ℕ) → 0 < positionCount spans v → variable_lines r v ≡ variableLine spans v ++ positions_from spans sets v 0
-  unfolding variableLine symbolsLine
+  pub some_lines : (v : ℕ) → 0 < position_count_lem spans v → variable_lines r v ≡ variable_line spans v ++ positions_from spans sets v 0
+  unfolding variable_line symbols_line
   some_lines v l =
-      let n = positionCount spans v in
-      let f : ℕ → List ℕ = λ k. symbolsLine sets (firstPosition spans v + k) in
+      let n = position_count_lem spans v in
+      let f : ℕ → List ℕ = λ k. symbols_line sets (first_position_lem spans v + k) in
       let e : n ≡ n - 0 = omega arith in
-      rw (ne_eqb n 0 (λ z. omega arith)) (ap (λ t. variableLine spans v ++ t) (through-upward f n ∙ ap (λ k. upward 0 k f) e))
+      rw (ne_eqb n 0 (λ z. omega arith)) (ap (λ t. variable_line spans v ++ t) (through-upward f n ∙ ap (λ k. upward 0 k f) e))
 
-  pub no_lines : (v : ℕ) → positionCount spans v ≤ 0 → variable_lines r v ≡ []
-  no_lines v l = rw (eq-eqb (positionCount spans v) 0 (omega arith))
+  pub no_lines : (v : ℕ) → position_count_lem spans v ≤ 0 → variable_lines r v ≡ []
+  no_lines v l = rw (eq-eqb (position_count_lem spans v) 0 (omega arith))
 
-  rest_seek : (v n : ℕ) → v + n ≡ variableCount → upward v n (variable_lines r) ≡ rest (seek_in spans v n)
+  rest_seek : (v n : ℕ) → v + n ≡ variable_count → upward v n (variable_lines r) ≡ rest (seek_in spans v n)
   unfolding seek_in rest_at
   rest_seek v zero e = refl
   rest_seek v (suc n) e = go (dec_lt 0 count) (rest_seek (suc v) n (omega arith))
     where
       count : ℕ
-      count = positionCount spans v
+      count = position_count_lem spans v
 
       found : Bool → List ℕ
       found empty = rest (cond empty (seek_in spans (suc v) n) (Variable v))
 
       go : Dec (0 < count) → upward (suc v) n (variable_lines r) ≡ rest (seek_in spans (suc v) n) → upward v (suc n) (variable_lines r) ≡ found (eqb count 0)
       go (yes l) later =
-          let left : suc n ≡ variableCount - v = omega arith in
+          let left : suc n ≡ variable_count - v = omega arith in
           ap (λ k. upward v k (variable_lines r)) left ∙ ap found (sym (ne_eqb count 0 (λ z. omega arith)))
       go (no l) later =
           ap (λ t. t ++ upward (suc v) n (variable_lines r)) (no_lines v (omega arith)) ∙ later ∙ ap found (sym (eq-eqb count 0 (omega arith)))
 
-  rest_from : (v : ℕ) → v ≤ variableCount → variables_from r v ≡ rest (seekFrom spans v)
-  rest_from v l = rest_seek v (variableCount - v) (omega arith)
+  rest_from : (v : ℕ) → v ≤ variable_count → variables_from r v ≡ rest (seek_from spans v)
+  rest_from v l = rest_seek v (variable_count - v) (omega arith)
 
   -- what is left of a variable's positions, and the variables after it
-  rest_position : (v k : ℕ) → v < variableCount → positions_from spans sets v (k + 1) ++ variables_from r (v + 1) ≡ rest (afterPosition spans v k)
-  unfolding afterPosition rest_at
+  rest_position : (v k : ℕ) → v < variable_count → positions_from spans sets v (k + 1) ++ variables_from r (v + 1) ≡ rest (after_position_lem spans v k)
+  unfolding after_position_lem rest_at
   rest_position v k l = go (dec_lt (k + 1) count)
     where
       count : ℕ
-      count = positionCount spans v
+      count = position_count_lem spans v
 
       after : Bool → List ℕ
-      after more = rest (cond more (Position v (k + 1)) (seekFrom spans (v + 1)))
+      after more = rest (cond more (Position v (k + 1)) (seek_from spans (v + 1)))
 
       go : Dec (k + 1 < count) → positions_from spans sets v (k + 1) ++ variables_from r (v + 1) ≡ after (ltb (k + 1) count)
       go (yes m) = ap after (sym (lt-ltb (k + 1) count m))
       go (no m) =
           let no_more : count - (k + 1) ≡ 0 = omega arith in
-          let f : ℕ → List ℕ = λ i. symbolsLine sets (firstPosition spans v + i) in
+          let f : ℕ → List ℕ = λ i. symbols_line sets (first_position_lem spans v + i) in
           ap (λ n. upward (k + 1) n f ++ variables_from r (v + 1)) no_more ∙ rest_from (v + 1) (omega arith) ∙ ap after (sym (le-ltb (k + 1) count (omega arith)))
 
-rest_first : (outcome : Outcome) (spans sets : List ℕ) → following outcome spans sets ≡ rest_at outcome spans sets (afterOutcome outcome spans)
-unfolding afterOutcome rest_at
+rest_first : (outcome : Outcome) (spans sets : List ℕ) → following outcome spans sets ≡ rest_at outcome spans sets (after_outcome_lem outcome spans)
+unfolding after_outcome_lem rest_at
 rest_first (Match low high) spans sets = rest_from (Match low high) spans sets 0 (omega arith)
 rest_first (Refused why) spans sets = refl
 
@@ -134,28 +134,28 @@ module _ (outcome : Outcome) (spans sets : List ℕ) where
   -- LAW: the line at a cursor, and then what is left at the next one
   pub rest_next : (cursor : Cursor) → OnLine spans cursor → rest_at outcome spans sets cursor ≡ line_at outcome spans sets cursor ++ rest_at outcome spans sets (next_cursor outcome spans cursor)
   unfolding line_at next_cursor rest_at
-  rest_next First on = ap (λ t. outcomeLine outcome ++ t) (rest_first outcome spans sets)
+  rest_next First on = ap (λ t. outcome_line outcome ++ t) (rest_first outcome spans sets)
   rest_next (Variable v) on =
       let f = variable_lines (result_of outcome spans sets) in
-      upward-first f v variableCount on.0
+      upward-first f v variable_count on.0
       ∙ ap (λ t. t ++ variables_from (result_of outcome spans sets) (v + 1)) (some_lines outcome spans sets v on.1)
-      ∙ append_assoc (variableLine spans v) (positions_from spans sets v 0) (variables_from (result_of outcome spans sets) (v + 1))
+      ∙ append_assoc (variable_line spans v) (positions_from spans sets v 0) (variables_from (result_of outcome spans sets) (v + 1))
   rest_next (Position v k) on =
-      let f : ℕ → List ℕ = λ i. symbolsLine sets (firstPosition spans v + i) in
-      ap (λ t. t ++ variables_from (result_of outcome spans sets) (v + 1)) (upward-first f k (positionCount spans v) on.1)
+      let f : ℕ → List ℕ = λ i. symbols_line sets (first_position_lem spans v + i) in
+      ap (λ t. t ++ variables_from (result_of outcome spans sets) (v + 1)) (upward-first f k (position_count_lem spans v) on.1)
       ∙ append_assoc (f k) (positions_from spans sets v (k + 1)) (variables_from (result_of outcome spans sets) (v + 1))
       ∙ ap (λ t. f k ++ t) (rest_position outcome spans sets v k on.0)
   rest_next End on = refl
 
 -- a refusal's line has its number and its place
-refused_text : (r : Matched) (g : Refusal) → refusedText (number_of g) (place_of g) ≡ text_of r (refused_as g)
-refused_text r (refusal n place) = refl
+refused_text_lem : (r : Matched) (g : Refusal) → refused_text (number_of g) (place_of g) ≡ text_of r (refused_as g)
+refused_text_lem r (refusal n place) = refl
 
 -- LAW: at the first line it is the whole text
-pub rest_start : (outcome : Outcome) (spans sets : List ℕ) → rest_at outcome spans sets First ≡ textIn (result_of outcome spans sets)
-unfolding rest_at outcomeLine
-rest_start (Match low high) spans sets = let r = result_of (Match low high) spans sets in ap (λ t. outcomeLine (Match low high) ++ t) (sym (through-upward (variable_lines r) variableCount))
-rest_start (Refused why) spans sets = append-nil (outcomeLine (Refused why)) ∙ refused_text (result_of (Refused why) spans sets) (told why)
+pub rest_start : (outcome : Outcome) (spans sets : List ℕ) → rest_at outcome spans sets First ≡ text_in (result_of outcome spans sets)
+unfolding rest_at outcome_line
+rest_start (Match low high) spans sets = let r = result_of (Match low high) spans sets in ap (λ t. outcome_line (Match low high) ++ t) (sym (through-upward (variable_lines r) variable_count))
+rest_start (Refused why) spans sets = append-nil (outcome_line (Refused why)) ∙ refused_text_lem (result_of (Refused why) spans sets) (told why)
 
 -- LAW: at the end it is nothing
 pub rest_end : (outcome : Outcome) (spans sets : List ℕ) → rest_at outcome spans sets End ≡ []
@@ -164,27 +164,27 @@ rest_end outcome spans sets = refl
 
 -- ---- cursors stay on lines
 
-seek_on : (spans : List ℕ) (v n : ℕ) → v + n ≡ variableCount → OnLine spans (seek_in spans v n)
+seek_on : (spans : List ℕ) (v n : ℕ) → v + n ≡ variable_count → OnLine spans (seek_in spans v n)
 unfolding seek_in
 seek_on spans v zero e = tt
-seek_on spans v (suc n) e = go (dec_lt 0 (positionCount spans v)) (seek_on spans (suc v) n (omega arith))
+seek_on spans v (suc n) e = go (dec_lt 0 (position_count_lem spans v)) (seek_on spans (suc v) n (omega arith))
   where
-    go : Dec (0 < positionCount spans v) → OnLine spans (seek_in spans (suc v) n) → OnLine spans (cond (eqb (positionCount spans v) 0) (seek_in spans (suc v) n) (Variable v))
-    go (yes l) later = rw (ne_eqb (positionCount spans v) 0 (λ z. omega arith)) (omega arith, l)
-    go (no l) later = rw (eq-eqb (positionCount spans v) 0 (omega arith)) later
+    go : Dec (0 < position_count_lem spans v) → OnLine spans (seek_in spans (suc v) n) → OnLine spans (cond (eqb (position_count_lem spans v) 0) (seek_in spans (suc v) n) (Variable v))
+    go (yes l) later = rw (ne_eqb (position_count_lem spans v) 0 (λ z. omega arith)) (omega arith, l)
+    go (no l) later = rw (eq-eqb (position_count_lem spans v) 0 (omega arith)) later
 
-on_first : (outcome : Outcome) (spans : List ℕ) → OnLine spans (afterOutcome outcome spans)
-unfolding afterOutcome
-on_first (Match low high) spans = seek_on spans 0 variableCount (omega arith)
+on_first : (outcome : Outcome) (spans : List ℕ) → OnLine spans (after_outcome_lem outcome spans)
+unfolding after_outcome_lem
+on_first (Match low high) spans = seek_on spans 0 variable_count (omega arith)
 on_first (Refused why) spans = tt
 
-on_position : (spans : List ℕ) (v k : ℕ) → v < variableCount → OnLine spans (afterPosition spans v k)
-unfolding afterPosition
-on_position spans v k l = go (dec_lt (k + 1) (positionCount spans v))
+on_position : (spans : List ℕ) (v k : ℕ) → v < variable_count → OnLine spans (after_position_lem spans v k)
+unfolding after_position_lem
+on_position spans v k l = go (dec_lt (k + 1) (position_count_lem spans v))
   where
-    go : Dec (k + 1 < positionCount spans v) → OnLine spans (cond (ltb (k + 1) (positionCount spans v)) (Position v (k + 1)) (seekFrom spans (v + 1)))
-    go (yes m) = rw (lt-ltb (k + 1) (positionCount spans v) m) (l, m)
-    go (no m) = rw (le-ltb (k + 1) (positionCount spans v) (omega arith)) (seek_on spans (v + 1) (variableCount - (v + 1)) (omega arith))
+    go : Dec (k + 1 < position_count_lem spans v) → OnLine spans (cond (ltb (k + 1) (position_count_lem spans v)) (Position v (k + 1)) (seek_from spans (v + 1)))
+    go (yes m) = rw (lt-ltb (k + 1) (position_count_lem spans v) m) (l, m)
+    go (no m) = rw (le-ltb (k + 1) (position_count_lem spans v) (omega arith)) (seek_on spans (v + 1) (variable_count - (v + 1)) (omega arith))
 
 -- LAW: the next cursor stands at a line, or at the end
 pub on_next : (outcome : Outcome) (spans : List ℕ) (cursor : Cursor) → OnLine spans cursor → OnLine spans (next_cursor outcome spans cursor)
@@ -206,18 +206,18 @@ ended (Variable v) = no (λ e. let z : ◌≡◌ {A = ℕ} 0 1 = cc in omega ari
 ended (Position v k) = no (λ e. let z : ◌≡◌ {A = ℕ} 0 1 = cc in omega arith)
 ended End = yes refl
 
-outcome_some : (outcome : Outcome) → 0 < length (outcomeLine outcome)
-unfolding outcomeLine
+outcome_some : (outcome : Outcome) → 0 < length (outcome_line outcome)
+unfolding outcome_line
 outcome_some (Match low high) = line-some (match_word ∷ decimal low ∷ decimal high ∷ [])
-outcome_some (Refused why) = line-some (refusedWord ∷ decimal (number_of (told why)) ∷ decimal (place_of (told why)) ∷ [])
+outcome_some (Refused why) = line-some (refused_word ∷ decimal (number_of (told why)) ∷ decimal (place_of (told why)) ∷ [])
 
 module _ (outcome : Outcome) (spans sets : List ℕ) where
   -- no line is empty
   some_byte : (cursor : Cursor) → (cursor ≡ End → ⊥) → 0 < length (line_at outcome spans sets cursor)
-  unfolding line_at variableLine symbolsLine
+  unfolding line_at variable_line symbols_line
   some_byte First over = outcome_some outcome
-  some_byte (Variable v) over = line-some (variable_word v ∷ decimal (positionCount spans v) ∷ decimal (ownLowest spans v) ∷ decimal (ownHighest spans v) ∷ [])
-  some_byte (Position v k) over = line-some (map decimal (collect setRoom (holds sets (firstPosition spans v + k))))
+  some_byte (Variable v) over = line-some (variable_word v ∷ decimal (position_count_lem spans v) ∷ decimal (own_lowest_lem spans v) ∷ decimal (own_highest_lem spans v) ∷ [])
+  some_byte (Position v k) over = line-some (map decimal (collect set_room (holds sets (first_position_lem spans v + k))))
   some_byte End over = absurd (over refl)
 
   -- LAW: with each line less is left
@@ -251,6 +251,6 @@ module _ (outcome : Outcome) (spans sets : List ℕ) where
       ∙ sym (rest_next outcome spans sets cursor on)
 
   -- THEOREM: the lines from the first on, one after the other, are the text. (Past the last line there are only empty ones.)
-  pub lines_are_text : (n : ℕ) → length (textIn (result_of outcome spans sets)) ≤ n
-      → lines_from outcome spans sets n First ≡ textIn (result_of outcome spans sets)
+  pub lines_are_text : (n : ℕ) → length (text_in (result_of outcome spans sets)) ≤ n
+      → lines_from outcome spans sets n First ≡ text_in (result_of outcome spans sets)
   lines_are_text n l = all_lines n First tt (omega (arith, ap length (rest_start outcome spans sets))) ∙ rest_start outcome spans sets

@@ -13,7 +13,7 @@ use Rattle.lines.specs.declared.line.Line.{Line}
 use Rattle.lines.specs.declared.line.Line.TheVariants.{Text, Done}
 use Rattle.lines.specs.declared.filling.Filled.{Filled}
 use Rattle.text.specs.Texts.{PutBy}
-use Rattle.lines.specs.Lines.{lineRoom, line_at, rest_at, OnLine, LineBy}
+use Rattle.lines.specs.Lines.{line_room, line_at, rest_at, OnLine, LineBy}
 use Rattle.lines.specs.Filling.{FilledBy}
 use Rattle.text.proofs.Puts.{put_none, put_then}
 use Rattle.lines.proofs.Rest.{nothing, rest_next, rest_end, rest_falls, rest_over, on_next}
@@ -62,13 +62,13 @@ module _ (outcome : Outcome) (spans sets : List ℕ) (cursor : Cursor) (before :
         (t.0, subst (Begun end next) (sym t.1) b)
 
   -- LAW: it may end at any line, if there is no room for one more or none is left
-  pub begun_filled : (r : Filled) (out : List ℕ) → Begun r.end r.cursor out → (r.end + lineRoom ≤ length before → r.cursor ≡ End)
+  pub begun_filled : (r : Filled) (out : List ℕ) → Begun r.end r.cursor out → (r.end + line_room ≤ length before → r.cursor ≡ End)
       → FilledBy outcome spans sets cursor before at r out
   begun_filled r out b full = record { text = b.text; put = b.put; splits = b.splits; on = b.on; full = full }
 
 -- LAW: where there is room for a line, filling from the front leaves less
 pub fill_less : (outcome : Outcome) (spans sets : List ℕ) (cursor : Cursor) (before : List ℕ) (r : Filled) (after : List ℕ) → FilledBy outcome spans sets cursor before 0 r after → OnLine spans cursor
-    → lineRoom ≤ length before → (cursor ≡ End → ⊥) → length (rest_at outcome spans sets r.cursor) < length (rest_at outcome spans sets cursor)
+    → line_room ≤ length before → (cursor ≡ End → ⊥) → length (rest_at outcome spans sets r.cursor) < length (rest_at outcome spans sets cursor)
 fill_less outcome spans sets cursor before r after f on room over = go (dec_lt 0 (length f.text))
   where
     rest : Cursor → List ℕ

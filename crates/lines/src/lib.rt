@@ -1,5 +1,3 @@
 // The answer as lines of text.
-#![tactic(auto)]
-
 pub mod filling;
 pub mod line;

@@ -1,10 +1,10 @@
 // The answer's text, line by line.
 ghost use Rattle.std.specs.Prelude.{◌≡◌, [], ◌∷◌, cond, ◌+◌, ◌*◌, ◌≤◌, ◌<◌, eqb, length};
-ghost use Rattle.meaning.specs.Limits.{setWords, variableCount, spanWidth};
-ghost use Rattle.meaning.specs.Buffers.{firstPosition, positionCount, ownLowest, ownHighest};
+ghost use Rattle.meaning.specs.Limits.{set_words_lem, variable_count, span_width};
+ghost use Rattle.meaning.specs.Buffers.{first_position_lem, position_count_lem, own_lowest_lem, own_highest_lem};
 ghost use Rattle.meaning.specs.Program.{line};
 ghost use Rattle.text.specs.Texts.{PutBy, numeral};
-ghost use Rattle.lines.specs.Lines.{lineRoom, outcomeLine, variableLine, symbolsLine, seekFrom, afterOutcome, afterPosition, OnLine, Spanned, LineBy};
+ghost use Rattle.lines.specs.Lines.{line_room, outcome_line, variable_line, symbols_line, seek_from, after_outcome_lem, after_position_lem, OnLine, Spanned, LineBy};
 
 use refusal::Outcome;
 use sets::SymbolSet;
@@ -35,29 +35,29 @@ const SPAN: usize = 4;
 pub const LINE_ROOM: usize = 8 * SymbolSet::ROOM as usize;
 
 fn first_position(spans: &[u16], v: u16) -> u16
-    requires { (spanWidth * variableCount ≤ length spans.now) × (v < variableCount) }
-    ensures { result ≡ firstPosition spans.now v }
+    requires { (span_width * variable_count ≤ length spans.now) × (v < variable_count) }
+    ensures { result ≡ first_position_lem spans.now v }
 {
     spans[SPAN * v as usize]
 }
 
 fn position_count(spans: &[u16], v: u16) -> u16
-    requires { (spanWidth * variableCount ≤ length spans.now) × (v < variableCount) }
-    ensures { result ≡ positionCount spans.now v }
+    requires { (span_width * variable_count ≤ length spans.now) × (v < variable_count) }
+    ensures { result ≡ position_count_lem spans.now v }
 {
     spans[SPAN * v as usize + 1]
 }
 
 fn own_lowest(spans: &[u16], v: u16) -> u16
-    requires { (spanWidth * variableCount ≤ length spans.now) × (v < variableCount) }
-    ensures { result ≡ ownLowest spans.now v }
+    requires { (span_width * variable_count ≤ length spans.now) × (v < variable_count) }
+    ensures { result ≡ own_lowest_lem spans.now v }
 {
     spans[SPAN * v as usize + 2]
 }
 
 fn own_highest(spans: &[u16], v: u16) -> u16
-    requires { (spanWidth * variableCount ≤ length spans.now) × (v < variableCount) }
-    ensures { result ≡ ownHighest spans.now v }
+    requires { (span_width * variable_count ≤ length spans.now) × (v < variable_count) }
+    ensures { result ≡ own_highest_lem spans.now v }
 {
     spans[SPAN * v as usize + 3]
 }
@@ -66,8 +66,8 @@ fn own_highest(spans: &[u16], v: u16) -> u16
 
 // The own line of the next variable that has positions, from `first` on.
 fn seek(spans: &[u16], first: u16) -> Cursor
-    requires { (spanWidth * variableCount ≤ length spans.now) × (first ≤ variableCount) }
-    ensures { result ≡ seekFrom spans.now first }
+    requires { (span_width * variable_count ≤ length spans.now) × (first ≤ variable_count) }
+    ensures { result ≡ seek_from spans.now first }
 {
     for v in first..32 {
         if position_count(spans, v) > 0 {
@@ -78,8 +78,8 @@ fn seek(spans: &[u16], first: u16) -> Cursor
 }
 
 fn after_outcome(outcome: Outcome, spans: &[u16]) -> Cursor
-    requires { spanWidth * variableCount ≤ length spans.now }
-    ensures { result ≡ afterOutcome outcome spans.now }
+    requires { span_width * variable_count ≤ length spans.now }
+    ensures { result ≡ after_outcome_lem outcome spans.now }
 {
     match outcome {
         Outcome::Match(_, _) => seek(spans, 0),
@@ -88,8 +88,8 @@ fn after_outcome(outcome: Outcome, spans: &[u16]) -> Cursor
 }
 
 fn after_position(spans: &[u16], v: u16, k: u16) -> Cursor
-    requires { (spanWidth * variableCount ≤ length spans.now) × (v < variableCount) × (k < positionCount spans.now v) }
-    ensures { result ≡ afterPosition spans.now v k }
+    requires { (span_width * variable_count ≤ length spans.now) × (v < variable_count) × (k < position_count_lem spans.now v) }
+    ensures { result ≡ after_position_lem spans.now v k }
 {
     if k + 1 < position_count(spans, v) {
         Cursor::Position(v, k + 1)
@@ -122,8 +122,8 @@ fn put_fields(out: &mut [u8], at: usize, word: &[u8], first: u16, second: u16) -
 }
 
 fn put_outcome(out: &mut [u8], at: usize, outcome: Outcome) -> usize
-    requires { at + lineRoom ≤ length out.old }
-    ensures { PutBy out.old at (outcomeLine outcome) result out.new }
+    requires { at + line_room ≤ length out.old }
+    ensures { PutBy out.old at (outcome_line outcome) result out.new }
 {
     match outcome {
         Outcome::Match(lowest, highest) => put_fields(out, at, b"match", lowest, highest),
@@ -133,8 +133,8 @@ fn put_outcome(out: &mut [u8], at: usize, outcome: Outcome) -> usize
 
 // A variable's own line: its number, how many positions it has, and its own lowest and highest degree.
 fn put_variable(out: &mut [u8], at: usize, spans: &[u16], v: u16) -> usize
-    requires { (at + lineRoom ≤ length out.old) × (spanWidth * variableCount ≤ length spans.now) × (v < variableCount) }
-    ensures { PutBy out.old at (variableLine spans.now v) result out.new }
+    requires { (at + line_room ≤ length out.old) × (span_width * variable_count ≤ length spans.now) × (v < variable_count) }
+    ensures { PutBy out.old at (variable_line spans.now v) result out.new }
 {
     let count = position_count(spans, v);
     let lowest = own_lowest(spans, v);
@@ -161,8 +161,8 @@ fn put_field(out: &mut [u8], start: usize, at: usize, n: u16) -> usize
 
 // The symbols at a position, rising.
 fn put_symbols(out: &mut [u8], start: usize, sets: &[u64], position: usize) -> usize
-    requires { (start + lineRoom ≤ length out.old) × (setWords * (position + 1) ≤ length sets.now) }
-    ensures { PutBy out.old start (symbolsLine sets.now position) result out.new }
+    requires { (start + line_room ≤ length out.old) × (set_words_lem * (position + 1) ≤ length sets.now) }
+    ensures { PutBy out.old start (symbols_line sets.now position) result out.new }
 {
     let set = SymbolSet::read(sets, SymbolSet::WORDS * position);
     let mut at = start;
@@ -183,7 +183,7 @@ pub fn next_line(
     out: &mut [u8],
     at: usize,
 ) -> Line
-    requires { Spanned spans.now sets.now × OnLine spans.now cursor × (at + lineRoom ≤ length out.old) }
+    requires { Spanned spans.now sets.now × OnLine spans.now cursor × (at + line_room ≤ length out.old) }
     ensures { LineBy outcome spans.now sets.now cursor out.old at result out.new }
 {
     match cursor {

@@ -11,7 +11,7 @@ use Rattle.theory.specs.Least.{All}
 use Rattle.theory.proofs.Lemmas.{all_right}
 use Rattle.meaning.specs.Program.{decimal}
 use Rattle.text.specs.Texts.{PutBy}
-use Rattle.marc.specs.Frame.{isDigit}
+use Rattle.marc.specs.Frame.{is_digit_lem}
 use Rattle.marc.specs.Known.{known}
 use Rattle.marc.specs.ListFile.{Numbered, NoFirstLine, NoLine}
 use Rattle.marc.proofs.Numerals.{decimal-some, decimal_once}
@@ -30,7 +30,7 @@ valued_on file at n next l v =
     omega (arith, v.inside, ap length v.written, length-drop at file, length-drop next file, length-append (decimal n) (drop next file), decimal-some n)
 
 -- no other number is there
-read_once : (file : List ℕ) (at n next m c : ℕ) (left : List ℕ) → Valued file at n next → Numbered m → isDigit c ≡ false → drop at file ≡ decimal m ++ (c ∷ left)
+read_once : (file : List ℕ) (at n next m c : ℕ) (left : List ℕ) → Valued file at n next → Numbered m → is_digit_lem c ≡ false → drop at file ≡ decimal m ++ (c ∷ left)
     → (n ≡ m) × (get_or file next 0 ≡ c) × (drop (next + 1) file ≡ left)
 read_once file at n next m c left v fits other e =
     decimal_once n m (get_or file next 0) c (drop (next + 1) file) left v.fits fits v.ended other (sym (goes_with file at n next (get_or file next 0) v refl) ∙ e)

@@ -15,7 +15,7 @@ use Rattle.theory.proofs.Lemmas.{all_append, and_left, and_right}
 use Rattle.theory.proofs.Reading.{drop_head}
 use Rattle.meaning.specs.Program.{digits, decimal}
 use Rattle.text.proofs.Puts.{digits_one, digits_more}
-use Rattle.marc.specs.Frame.{isDigit}
+use Rattle.marc.specs.Frame.{is_digit_lem}
 use Rattle.marc.specs.ListFile.{Numbered}
 use Rattle.marc.proofs.Parting.{GoesOn, goes_on, parts_once}
 use Rattle.marc.proofs.Numerals.{Digit, value_behind, decimal-some, decimal_all, decimal_value, decimal-first}
@@ -80,7 +80,7 @@ module _ (file : List ℕ) (at value i : ℕ) (p : Passing file at value i) wher
           record { part = []; all = tt; worth = sym (p.none_yet (sym e)); begins = ap (λ j. drop j file) e }
 
   -- a number that stands there begins with the digits that were passed, and with those behind them
-  passed_on : (more : List ℕ) → All Digit more → (rest : List ℕ) → drop i file ≡ more ++ rest → (n c : ℕ) (left : List ℕ) → isDigit c ≡ false → drop at file ≡ decimal n ++ (c ∷ left)
+  passed_on : (more : List ℕ) → All Digit more → (rest : List ℕ) → drop i file ≡ more ++ rest → (n c : ℕ) (left : List ℕ) → is_digit_lem c ≡ false → drop at file ≡ decimal n ++ (c ∷ left)
       → GoesOn (passed.part ++ more) (decimal n) rest c left
   passed_on more all rest e n c left other f =
       let g : (passed.part ++ more) ++ rest ≡ decimal n ++ (c ∷ left) = append_assoc passed.part more rest ∙ ap (λ t. passed.part ++ t) (sym e) ∙ sym passed.begins ∙ f in
@@ -94,11 +94,11 @@ module _ (file : List ℕ) (at value i : ℕ) (p : Passing file at value i) wher
 
   module _ (inside : i < length file) where
     -- LAW: a byte that is no digit ends them
-    pub value_ended : isDigit (get_or file i 0) ≡ false → (i ≡ at → ⊥) → Valued file at value i
+    pub value_ended : is_digit_lem (get_or file i 0) ≡ false → (i ≡ at → ⊥) → Valued file at value i
     value_ended other some = record { fits = p.fits; inside = inside; ended = other; written = p.written (omega (arith, p.rising)) }
 
     -- LAW: a number has a digit
-    pub no_digit : isDigit (get_or file i 0) ≡ false → i ≡ at → NoNumber (drop at file)
+    pub no_digit : is_digit_lem (get_or file i 0) ≡ false → i ≡ at → NoNumber (drop at file)
     no_digit other none n c left fits other' e =
         let f : get_or file i 0 ∷ drop (i + 1) file ≡ decimal n ++ (c ∷ left) = sym (next_byte file i inside) ∙ ap (λ j. drop j file) none ∙ e in
         let q = parts_once Digit [] (decimal n) (get_or file i 0) c (drop (i + 1) file) left tt (decimal_all n fits) (λ t. false≢true (sym other ∙ t)) (λ t. false≢true (sym other' ∙ t)) f in
@@ -113,7 +113,7 @@ module _ (file : List ℕ) (at value i : ℕ) (p : Passing file at value i) wher
           let zero : n ≡ 0 = decimal-first n fits (ap (λ t. get_or t 0 0) on.is) in
           let none : on.more ≡ [] = tail-eq_of_cons-eq (sym on.is ∙ ap decimal zero) in
           let here : drop i file ≡ c ∷ left = on.behind ∙ ap (λ t. t ++ (c ∷ left)) none in
-          false≢true (sym other ∙ ap isDigit (sym (drop_head file i c left here).1) ∙ digit)
+          false≢true (sym other ∙ ap is_digit_lem (sym (drop_head file i c left here).1) ∙ digit)
 
       module _ (d : ℕ) (worth : d ≡ get_or file i 0 - 48) where
         last : 48 + d ≡ get_or file i 0

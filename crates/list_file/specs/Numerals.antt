@@ -1,7 +1,7 @@
 -- What is read where a number has to begin.
 use Rattle.std.specs.Prelude.{◌≡◌, List, ◌∷◌, ◌++◌, false, ℕ, ◌<◌, length, get_or, drop}
 use Rattle.meaning.specs.Program.{decimal}
-use Rattle.marc.specs.Frame.{isDigit}
+use Rattle.marc.specs.Frame.{is_digit_lem}
 use Rattle.marc.specs.ListFile.{Numbered}
 use Rattle.list_file.specs.declared.numeral.Numeral.{Numeral}
 use Rattle.list_file.specs.declared.numeral.Numeral.TheVariants.{Value, Other}
@@ -10,12 +10,12 @@ use Rattle.list_file.specs.declared.numeral.Numeral.TheVariants.{Value, Other}
 pub record Valued (file : List ℕ) (at n next : ℕ) : Type 0 where
   pub fits : Numbered n
   pub inside : next < length file
-  pub ended : isDigit (get_or file next 0) ≡ false
+  pub ended : is_digit_lem (get_or file next 0) ≡ false
   pub written : drop at file ≡ decimal n ++ drop next file
 
 -- No number stands there that has a byte behind it that is no digit.
 abbrev pub NoNumber : List ℕ → Type 0
-NoNumber bytes = (n byte : ℕ) (left : List ℕ) → Numbered n → isDigit byte ≡ false → bytes ≡ decimal n ++ (byte ∷ left) → ⊥
+NoNumber bytes = (n byte : ℕ) (left : List ℕ) → Numbered n → is_digit_lem byte ≡ false → bytes ≡ decimal n ++ (byte ∷ left) → ⊥
 
 abbrev pub NumeralBy : List ℕ → ℕ → Numeral → Type 0
 NumeralBy file at (Value n next) = Valued file at n next

@@ -13,7 +13,7 @@ use Rattle.meaning.specs.Calls.{aye, symbol_degree_lem}
 use Rattle.meaning.proofs.First.{Silent, all_silent, append-none, exactly, unless_gives, unless_refused}
 use Rattle.meaning.proofs.Sound.{at0-none}
 use Rattle.meaning.proofs.Degrees.{symbol_degrees}
-use Rattle.marc.specs.Frame.{Field, field, fields_in, frameRows, at_if}
+use Rattle.marc.specs.Frame.{Field, field, fields_in, frame_rows, at_if}
 use Rattle.marc.specs.Subfields.{subfield}
 use Rattle.marc.specs.Known.{Known, same, number_in, row19}
 use Rattle.marc.specs.Heading.{tag100, code_a, code_d, first_with, then_in, missing, field100, name_in, dates_in, row20, row21, row22, unlisted, node_of, heading_rows, heading_of, headed, later_nodes, heading_call}
@@ -59,20 +59,20 @@ there (just a) e = (a, refl)
 
 module _ (r : List ℕ) (ks : List Known) (heading absent : ℕ) (output : List ℕ) (e : first (heading_rows r ks heading absent output) ≡ none) where
   -- none of the rows holds
-  split : (first (row19 ks absent ∷ row8-output 3 output ∷ frameRows r) ≡ none) × (first (row20 r ∷ row21 r ∷ row22 ks r ∷ []) ≡ none)
+  split : (first (row19 ks absent ∷ row8-output 3 output ∷ frame_rows r) ≡ none) × (first (row20 r ∷ row21 r ∷ row22 ks r ∷ []) ≡ none)
   unfolding heading_rows
-  split = append-none (row19 ks absent ∷ row8-output 3 output ∷ frameRows r) (row20 r ∷ row21 r ∷ row22 ks r ∷ []) e
+  split = append-none (row19 ks absent ∷ row8-output 3 output ∷ frame_rows r) (row20 r ∷ row21 r ∷ row22 ks r ∷ []) e
 
   pub list_fine : Silent (row19 ks absent)
-  list_fine = (all_silent (row19 ks absent ∷ row8-output 3 output ∷ frameRows r) split.0).0
+  list_fine = (all_silent (row19 ks absent ∷ row8-output 3 output ∷ frame_rows r) split.0).0
 
-  pub frame_fine : first (frameRows r) ≡ none
-  frame_fine = (append-none (row19 ks absent ∷ row8-output 3 output ∷ []) (frameRows r) split.0).1
+  pub frame_fine : first (frame_rows r) ≡ none
+  frame_fine = (append-none (row19 ks absent ∷ row8-output 3 output ∷ []) (frame_rows r) split.0).1
 
   -- LAW: there is room
   pub room : 3 ≤ length output
   unfolding row8-output
-  room = ltb-false (length output) 3 (at0-none (ltb (length output) 3) (all_silent (row19 ks absent ∷ row8-output 3 output ∷ frameRows r) split.0).1.0)
+  room = ltb-false (length output) 3 (at0-none (ltb (length output) 3) (all_silent (row19 ks absent ∷ row8-output 3 output ∷ frame_rows r) split.0).1.0)
 
   has_100 : missing (field100 r) ≡ false
   unfolding row20
@@ -131,7 +131,7 @@ heads_call r ks heading absent output =
 
 -- THEOREM: its rows stand in their order
 pub heading_order : HeadingOrder
-unfolding heading_rows row19 row8-output frameRows row20 row21 row22
+unfolding heading_rows row19 row8-output frame_rows row20 row21 row22
 heading_order r ks heading absent output = refl
 
 -- THEOREM: what it leaves

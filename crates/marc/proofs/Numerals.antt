@@ -10,12 +10,12 @@ use lib.ListN.{length, get_or}
 use borrow.Author.Tests.{ltb-true, ltb-false, lt-ltb, le-leb}
 use Rattle.theory.specs.Least.{All}
 use Rattle.meaning.specs.Program.{digits, decimal}
-use Rattle.marc.specs.Frame.{isDigit}
+use Rattle.marc.specs.Frame.{is_digit_lem}
 use Rattle.marc.specs.ListFile.{Numbered}
 use Rattle.marc.proofs.Parting.{parts_once}
 
 abbrev pub Digit : ℕ → Type 0
-Digit b = isDigit b ≡ true
+Digit b = is_digit_lem b ≡ true
 
 -- what digits write, behind what was read already
 abbrev pub value_behind : ℕ → List ℕ → ℕ
@@ -83,7 +83,7 @@ module _ (n : ℕ) (fits : Numbered n) where
   decimal-first = digits-first 4 n [] (omega (arith, fits))
 
 -- LAW: a number with a byte behind it that is no digit
-pub decimal_once : (n m c d : ℕ) (r s : List ℕ) → Numbered n → Numbered m → isDigit c ≡ false → isDigit d ≡ false
+pub decimal_once : (n m c d : ℕ) (r s : List ℕ) → Numbered n → Numbered m → is_digit_lem c ≡ false → is_digit_lem d ≡ false
     → decimal n ++ (c ∷ r) ≡ decimal m ++ (d ∷ s) → (n ≡ m) × (c ≡ d) × (r ≡ s)
 decimal_once n m c d r s p q x y e =
     let one = parts_once Digit (decimal n) (decimal m) c d r s (decimal_all n p) (decimal_all m q) (λ t. false≢true (sym x ∙ t)) (λ t. false≢true (sym y ∙ t)) e in

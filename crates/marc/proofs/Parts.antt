@@ -8,7 +8,7 @@ use Prim.Native.Nat.{ℕ}
 use lib.Dec.{eqb}
 use borrow.Author.Tests.{ne_eqb}
 use Rattle.theory.specs.Least.{All}
-use Rattle.marc.specs.Subfields.{subfield_mark, textTo, text_of, subfield}
+use Rattle.marc.specs.Subfields.{subfield_mark, text_to, text_of, subfield}
 use Rattle.marc.specs.Plain.{Subfield, coded, Unmarked, FineSubfield, subfields_bytes}
 use Rattle.marc.specs.Reading.{first_coded, ReadsSubfields}
 
@@ -19,11 +19,11 @@ passed_over code [] rest u = refl
 passed_over code (b ∷ text) rest u = rw (ne_eqb b subfield_mark u.0) (passed_over code text rest u.1)
 
 -- a text ends at the next 1F, or at the end
-text_is : (text rest : List ℕ) → Unmarked text → textTo rest ≡ [] → textTo (text ++ rest) ≡ text
+text_is : (text rest : List ℕ) → Unmarked text → text_to rest ≡ [] → text_to (text ++ rest) ≡ text
 text_is [] rest u e = e
 text_is (b ∷ text) rest u e = rw (ne_eqb b subfield_mark u.0) (ap (λ t. b ∷ t) (text_is text rest u.1 e))
 
-ends_there : (ss : List Subfield) → textTo (subfields_bytes ss) ≡ []
+ends_there : (ss : List Subfield) → text_to (subfields_bytes ss) ≡ []
 ends_there [] = refl
 ends_there (coded c text ∷ ss) = refl
 
@@ -36,7 +36,7 @@ read code (coded c text ∷ ss) n f = go (eqb c code) (read code ss n f.1)
     behind : text_of code (subfields_bytes ss) ≡ first_coded code ss → text_of code (c ∷ (text ++ subfields_bytes ss)) ≡ first_coded code ss
     behind e = rw (ne_eqb c subfield_mark f.0.0) (passed_over code text (subfields_bytes ss) f.0.1 ∙ e)
 
-    go : (b : Bool) → text_of code (subfields_bytes ss) ≡ first_coded code ss → cond b (just (textTo (text ++ subfields_bytes ss))) (text_of code (c ∷ (text ++ subfields_bytes ss))) ≡ cond b (just text) (first_coded code ss)
+    go : (b : Bool) → text_of code (subfields_bytes ss) ≡ first_coded code ss → cond b (just (text_to (text ++ subfields_bytes ss))) (text_of code (c ∷ (text ++ subfields_bytes ss))) ≡ cond b (just text) (first_coded code ss)
     go true e = ap just (text_is text (subfields_bytes ss) f.0.1 (ends_there ss))
     go false e = behind e
 

@@ -10,27 +10,27 @@ use native.Mathlib.Omega.{arith}
 use lib.Dec.{eqb, ltb, leb}
 use lib.ListN.{length, get_or}
 use borrow.Author.Tests.{leb-true, ltb-true, eqb-true, not-false}
-use Rattle.theory.specs.Least.{or_else, leastBelow}
+use Rattle.theory.specs.Least.{or_else, least_below}
 use Rattle.theory.proofs.Lemmas.{and_left, and_right, both_false, least_just}
 use Rattle.meaning.specs.Refusals.{refusal, Row, row, at0, first, row8-output}
 use Rattle.meaning.proofs.First.{none_below}
 use Rattle.meaning.proofs.Sound.{at0-none}
-use Rattle.marc.specs.Frame.{isDigit, digitsAt, value_at, decimalAt, record_length, baseAddress, entry_count, entry_at, field_end, fieldMark, record_mark, at_if, first_place, bad_length, badBase, bad_field_length, bad_field_start, entry_fault, unmarked, frameRows}
+use Rattle.marc.specs.Frame.{is_digit_lem, digits_at, value_at, decimal_at, record_length, base_address, entry_count, entry_at, field_end, field_mark, record_mark, at_if, first_place, bad_length, bad_base, bad_field_length, bad_field_start, entry_fault, unmarked, frame_rows}
 use Rattle.marc.specs.Known.{Known, bad_entry_lem, row19}
 use Rattle.marc.specs.Heading.{missing, field100, name_in, dates_in, row20, row21, row22, unlisted, heading_rows}
 use Rattle.marc.proofs.Frames.{or_none, at_none, no_place}
 
 -- ---- numbers in digits
 
-digit-first : (r : List ℕ) (at n : ℕ) → digitsAt r at (suc n) ≡ true → (get_or r at 0 ≤ 57) × (digitsAt r (at + 1) n ≡ true)
-unfolding digitsAt
+digit-first : (r : List ℕ) (at n : ℕ) → digits_at r at (suc n) ≡ true → (get_or r at 0 ≤ 57) × (digits_at r (at + 1) n ≡ true)
+unfolding digits_at
 digit-first r at n e =
     let b = get_or r at 0 in
-    let d = and_left (isDigit b) (digitsAt r (at + 1) n) e in
-    (leb-true b 57 (and_right (leb 48 b) (leb b 57) d), and_right (isDigit b) (digitsAt r (at + 1) n) e)
+    let d = and_left (is_digit_lem b) (digits_at r (at + 1) n) e in
+    (leb-true b 57 (and_right (leb 48 b) (leb b 57) d), and_right (is_digit_lem b) (digits_at r (at + 1) n) e)
 
 -- LAW: five digits write no more than 99,999
-five_most : (r : List ℕ) (at : ℕ) → digitsAt r at 5 ≡ true → decimalAt r at 5 ≤ 99999
+five_most : (r : List ℕ) (at : ℕ) → digits_at r at 5 ≡ true → decimal_at r at 5 ≤ 99999
 unfolding value_at
 five_most r at e =
     let a = digit-first r at 4 e in
@@ -46,7 +46,7 @@ place_is : (place : ℕ) (b : Bool) (p : ℕ) → at_if place b ≡ just p → p
 place_is place true p e = inv (some-injective place p e)
 place_is place false p e = absurd (some-ne-none p (inv e))
 
-pub least_inside : (b : ℕ → Bool) (n v : ℕ) → leastBelow n b ≡ just v → v < n
+pub least_inside : (b : ℕ → Bool) (n v : ℕ) → least_below n b ≡ just v → v < n
 least_inside b n v e = go (dec_lt v n)
   where
     go : Dec (v < n) → v < n
@@ -86,20 +86,20 @@ zero_low high b p e = let q = place_is 0 b p e in omega (arith, q)
 -- what is known where the length, and then the base address, passes its test
 short : (r : List ℕ) → bad_length r ≡ false → length r ≤ 99999
 short r e =
-    let s = both_false (not (digitsAt r 0 5)) (not (eqb (record_length r) (length r))) e in
+    let s = both_false (not (digits_at r 0 5)) (not (eqb (record_length r) (length r))) e in
     let is = eqb-true (record_length r) (length r) (not-false _ s.1) in
     omega (arith, is, five_most r 0 (not-false _ s.0))
 
-based : (r : List ℕ) → badBase r ≡ false → baseAddress r < length r
+based : (r : List ℕ) → bad_base r ≡ false → base_address r < length r
 based r e =
-    let first_three = not (digitsAt r 12 5) || ltb (baseAddress r) 25 || not (eqb ((baseAddress r - 25) % 12) 0) in
-    ltb-true (baseAddress r) (length r) (not-false _ (both_false first_three (not (ltb (baseAddress r) (length r))) e).1)
+    let first_three = not (digits_at r 12 5) || ltb (base_address r) 25 || not (eqb ((base_address r - 25) % 12) 0) in
+    ltb-true (base_address r) (length r) (not-false _ (both_false first_three (not (ltb (base_address r) (length r))) e).1)
 
 -- where an entry passes, its field ends inside
 ends_inside : (r : List ℕ) (e : ℕ) → entry_fault r e ≡ none → field_end r e < length r
 ends_inside r e f =
     let o = or_none (at_if (entry_at e + 3) (bad_field_length r e)) (at_if (entry_at e + 7) (bad_field_start r e)) f in
-    let s = both_false (not (digitsAt r (entry_at e + 7) 5)) (not (ltb (field_end r e) (length r))) (at_none (entry_at e + 7) (bad_field_start r e) o.1) in
+    let s = both_false (not (digits_at r (entry_at e + 7) 5)) (not (ltb (field_end r e) (length r))) (at_none (entry_at e + 7) (bad_field_start r e) o.1) in
     ltb-true (field_end r e) (length r) (not-false _ s.1)
 
 entry_place : (r : List ℕ) (e p : ℕ) → entry_fault r e ≡ just p → p ≤ entry_at e + 7
@@ -110,24 +110,24 @@ entry_place r e p f = go (bad_field_length r e) (bad_field_start r e) f
     go false b f = let q = place_is (entry_at e + 7) b p f in omega (arith, q)
 
 -- LAW: 17 is at one of the first 100,000 bytes
-frame_low : (r : List ℕ) (high : ℕ) → 99999 ≤ high → Low high (frameRows r)
-unfolding frameRows
+frame_low : (r : List ℕ) (high : ℕ) → 99999 ≤ high → Low high (frame_rows r)
+unfolding frame_rows
 frame_low r high h = (
   zero_low high (ltb (length r) 26),
   λ a. (
     zero_low high (bad_length r),
     λ b.
         let long = short r (at0-none (bad_length r) b) in (
-          λ p e. let q = place_is 12 (badBase r) p e in omega (arith, q),
+          λ p e. let q = place_is 12 (bad_base r) p e in omega (arith, q),
           λ c.
-              let base = based r (at_none 12 (badBase r) c) in (
+              let base = based r (at_none 12 (bad_base r) c) in (
                 λ p e. let g = given_place (entry_count r) (entry_fault r) p e in let q = entry_place r g.0 p g.2 in omega (arith, base, long, q, g.1),
                 λ d. (
-                  λ p e. let q = place_is (baseAddress r - 1) (not (eqb (get_or r (baseAddress r - 1) 0) fieldMark)) p e in omega (arith, base, long, q),
+                  λ p e. let q = place_is (base_address r - 1) (not (eqb (get_or r (base_address r - 1) 0) field_mark)) p e in omega (arith, base, long, q),
                   λ f. (
                     λ p e.
-                        let g = given_place (entry_count r) (λ k. unmarked r (field_end r k - 1) fieldMark) p e in
-                        let q = place_is (field_end r g.0 - 1) (not (eqb (get_or r (field_end r g.0 - 1) 0) fieldMark)) p g.2 in
+                        let g = given_place (entry_count r) (λ k. unmarked r (field_end r k - 1) field_mark) p e in
+                        let q = place_is (field_end r g.0 - 1) (not (eqb (get_or r (field_end r g.0 - 1) 0) field_mark)) p g.2 in
                         let inside = ends_inside r g.0 (no_place (entry_count r) (entry_fault r) d g.0 g.1) in
                         omega (arith, long, q, inside),
                     λ m. (
@@ -157,7 +157,7 @@ heading_place r ks heading absent output high few h =
       λ a. (
         zero_low high (ltb (length output) 3),
         λ b.
-            low_append high (frameRows r) _ (frame_low r high h) (
+            low_append high (frame_rows r) _ (frame_low r high h) (
               zero_low high (missing (field100 r)),
               λ c. (zero_low high (missing (name_in r)), λ d. (strings_low high (omega arith) (unlisted ks (name_in r)) (unlisted ks (dates_in r)), λ e. tt)),
             ),

@@ -12,7 +12,7 @@ use borrow.Author.Tests.{lt-ltb, le-ltb, eq-eqb, ne_eqb}
 use Rattle.theory.specs.Least.{All}
 use Rattle.meaning.specs.Refusals.{first}
 use Rattle.meaning.proofs.First.{silent_first}
-use Rattle.marc.specs.Frame.{Field, field, fieldMark, record_mark, digitsAt, decimalAt, record_length, baseAddress, entry_count, field_length, field_end, fields_from, fields_in, first_place, entry_fault, unmarked, frameRows}
+use Rattle.marc.specs.Frame.{Field, field, field_mark, record_mark, digits_at, decimal_at, record_length, base_address, entry_count, field_length, field_end, fields_from, fields_in, first_place, entry_fault, unmarked, frame_rows}
 use Rattle.marc.specs.Plain.{four_digits, five_digits, field_bytes, fields_bytes, directory, base_of, length_of, record_of, Fits, Holds}
 use Rattle.marc.specs.Reading.{ReadsPlain}
 use Rattle.marc.proofs.Digits.{digits_behind, decimal_behind, five_digits_lem, five_value}
@@ -26,7 +26,7 @@ place_none (suc n) f h = rw (place_none n f (λ k l. h k (omega arith))) (h n (o
 length-directory : (fs : List Field) (start : ℕ) → All Fits fs → length (directory start fs) ≡ 12 * length fs
 length-directory [] start a = refl
 length-directory (field tag content ∷ fs) start a =
-    let n = length (content ++ (fieldMark ∷ [])) in
+    let n = length (content ++ (field_mark ∷ [])) in
     omega (arith, length-append tag (four_digits n ++ (five_digits start ++ directory (start + n) fs)), length-directory fs (start + n) a.1, a.0.tag_is)
 
 module _ (one two : List ℕ) (fs : List Field) (h : Holds one two fs) where
@@ -47,21 +47,21 @@ module _ (one two : List ℕ) (fs : List Field) (h : Holds one two fs) where
   leader = lead ++ (five_digits (base_of fs) ++ two)
 
   abbrev front : List ℕ
-  front = leader ++ (directory 0 fs ++ (fieldMark ∷ []))
+  front = leader ++ (directory 0 fs ++ (field_mark ∷ []))
 
-  at_base : r ≡ lead ++ (five_digits B ++ (two ++ (directory 0 fs ++ (fieldMark ∷ (fields_bytes fs ++ (record_mark ∷ []))))))
+  at_base : r ≡ lead ++ (five_digits B ++ (two ++ (directory 0 fs ++ (field_mark ∷ (fields_bytes fs ++ (record_mark ∷ []))))))
   unfolding record_of
   at_base = refl
 
-  at-directory : r ≡ leader ++ (directory 0 fs ++ (fieldMark ∷ (fields_bytes fs ++ (record_mark ∷ []))))
-  at-directory = at_base ∙ inv (append_assoc lead (five_digits B ++ two) (directory 0 fs ++ (fieldMark ∷ (fields_bytes fs ++ (record_mark ∷ [])))))
+  at-directory : r ≡ leader ++ (directory 0 fs ++ (field_mark ∷ (fields_bytes fs ++ (record_mark ∷ []))))
+  at-directory = at_base ∙ inv (append_assoc lead (five_digits B ++ two) (directory 0 fs ++ (field_mark ∷ (fields_bytes fs ++ (record_mark ∷ [])))))
 
   at_fields : r ≡ front ++ (fields_bytes fs ++ (record_mark ∷ []))
   at_fields =
       let rest = fields_bytes fs ++ (record_mark ∷ []) in
       at-directory
-      ∙ ap (λ x. leader ++ x) (inv (append_assoc (directory 0 fs) (fieldMark ∷ []) rest))
-      ∙ inv (append_assoc leader (directory 0 fs ++ (fieldMark ∷ [])) rest)
+      ∙ ap (λ x. leader ++ x) (inv (append_assoc (directory 0 fs) (field_mark ∷ []) rest))
+      ∙ inv (append_assoc leader (directory 0 fs ++ (field_mark ∷ [])) rest)
 
   twelve : length lead ≡ 12
   twelve = omega (arith, h.seven)
@@ -71,25 +71,25 @@ module _ (one two : List ℕ) (fs : List Field) (h : Holds one two fs) where
 
   front_length : length front ≡ B
   front_length =
-      omega (arith, length-append leader (directory 0 fs ++ (fieldMark ∷ [])), length-append (directory 0 fs) (fieldMark ∷ []), twenty_four, length-directory fs 0 h.each)
+      omega (arith, length-append leader (directory 0 fs ++ (field_mark ∷ [])), length-append (directory 0 fs) (field_mark ∷ []), twenty_four, length-directory fs 0 h.each)
 
   pub all_length : length r ≡ L
   all_length = ap length at_fields ∙ omega (arith, length-append front (fields_bytes fs ++ (record_mark ∷ [])), length-append (fields_bytes fs) (record_mark ∷ []), front_length)
 
-  base_digits : digitsAt r 12 5 ≡ true
+  base_digits : digits_at r 12 5 ≡ true
   base_digits =
-      let rest = two ++ (directory 0 fs ++ (fieldMark ∷ (fields_bytes fs ++ (record_mark ∷ [])))) in
-      ap (λ x. digitsAt x 12 5) at_base ∙ digits_behind lead (five_digits B ++ rest) 12 5 twelve ∙ five_digits_lem B rest
+      let rest = two ++ (directory 0 fs ++ (field_mark ∷ (fields_bytes fs ++ (record_mark ∷ [])))) in
+      ap (λ x. digits_at x 12 5) at_base ∙ digits_behind lead (five_digits B ++ rest) 12 5 twelve ∙ five_digits_lem B rest
 
-  base_read : baseAddress r ≡ B
+  base_read : base_address r ≡ B
   base_read =
-      let rest = two ++ (directory 0 fs ++ (fieldMark ∷ (fields_bytes fs ++ (record_mark ∷ [])))) in
-      ap (λ x. decimalAt x 12 5) at_base ∙ decimal_behind lead (five_digits B ++ rest) 12 5 twelve ∙ five_value B rest (omega (arith, h.short))
+      let rest = two ++ (directory 0 fs ++ (field_mark ∷ (fields_bytes fs ++ (record_mark ∷ [])))) in
+      ap (λ x. decimal_at x 12 5) at_base ∙ decimal_behind lead (five_digits B ++ rest) 12 5 twelve ∙ five_value B rest (omega (arith, h.short))
 
-  pub length_read : (digitsAt r 0 5 ≡ true) × (record_length r ≡ L)
+  pub length_read : (digits_at r 0 5 ≡ true) × (record_length r ≡ L)
   unfolding record_of
   length_read =
-      let rest = one ++ (five_digits B ++ (two ++ (directory 0 fs ++ (fieldMark ∷ (fields_bytes fs ++ (record_mark ∷ [])))))) in
+      let rest = one ++ (five_digits B ++ (two ++ (directory 0 fs ++ (field_mark ∷ (fields_bytes fs ++ (record_mark ∷ [])))))) in
       (five_digits_lem L rest, five_value L rest (omega (arith, h.short)))
 
   count_read : entry_count r ≡ length fs
@@ -97,7 +97,7 @@ module _ (one two : List ℕ) (fs : List Field) (h : Holds one two fs) where
 
   all_told : ToldAll r 0 fs
   all_told =
-      told_all r fs 0 0 leader (fieldMark ∷ (fields_bytes fs ++ (record_mark ∷ []))) front (record_mark ∷ []) at-directory twenty_four at_fields (omega (arith, front_length, base_read))
+      told_all r fs 0 0 leader (field_mark ∷ (fields_bytes fs ++ (record_mark ∷ []))) front (record_mark ∷ []) at-directory twenty_four at_fields (omega (arith, front_length, base_read))
       (omega arith) h.each (omega (arith, h.short))
 
   told : (e : ℕ) → e < entry_count r → (f : Field) × Told r e f
@@ -115,16 +115,16 @@ module _ (one two : List ℕ) (fs : List Field) (h : Holds one two fs) where
       )
     where
       some_byte : (f : Field) → 0 < length (field_bytes f)
-      some_byte (field tag content) = omega (arith, length-append content (fieldMark ∷ []))
+      some_byte (field tag content) = omega (arith, length-append content (field_mark ∷ []))
 
-  marks : (e : ℕ) → e < entry_count r → unmarked r (field_end r e - 1) fieldMark ≡ none
-  marks e l = rw (eq-eqb (get_or r (field_end r e - 1) 0) fieldMark (told e l).1.marked)
+  marks : (e : ℕ) → e < entry_count r → unmarked r (field_end r e - 1) field_mark ≡ none
+  marks e l = rw (eq-eqb (get_or r (field_end r e - 1) 0) field_mark (told e l).1.marked)
 
-  directory_mark : get_or r (baseAddress r - 1) 0 ≡ fieldMark
+  directory_mark : get_or r (base_address r - 1) 0 ≡ field_mark
   directory_mark =
-      let at : length (leader ++ directory 0 fs) ≡ baseAddress r - 1 = omega (arith, length-append leader (directory 0 fs), twenty_four, length-directory fs 0 h.each, base_read) in
-      ap (λ x. get_or x (baseAddress r - 1) 0) (at-directory ∙ inv (append_assoc leader (directory 0 fs) (fieldMark ∷ (fields_bytes fs ++ (record_mark ∷ [])))))
-      ∙ get_or_at (leader ++ directory 0 fs) fieldMark (fields_bytes fs ++ (record_mark ∷ [])) 0 (baseAddress r - 1) at
+      let at : length (leader ++ directory 0 fs) ≡ base_address r - 1 = omega (arith, length-append leader (directory 0 fs), twenty_four, length-directory fs 0 h.each, base_read) in
+      ap (λ x. get_or x (base_address r - 1) 0) (at-directory ∙ inv (append_assoc leader (directory 0 fs) (field_mark ∷ (fields_bytes fs ++ (record_mark ∷ [])))))
+      ∙ get_or_at (leader ++ directory 0 fs) field_mark (fields_bytes fs ++ (record_mark ∷ [])) 0 (base_address r - 1) at
 
   pub last_mark : get_or r (length r - 1) 0 ≡ record_mark
   last_mark =
@@ -133,26 +133,26 @@ module _ (one two : List ℕ) (fs : List Field) (h : Holds one two fs) where
       ∙ get_or_at (front ++ fields_bytes fs) record_mark [] 0 (length r - 1) at
 
   -- LAW: it passes the frame's tests
-  passes : first (frameRows r) ≡ none
-  unfolding frameRows
+  passes : first (frame_rows r) ≡ none
+  unfolding frame_rows
   passes =
-      silent_first (frameRows r) (
+      silent_first (frame_rows r) (
         rw (le-ltb (length r) 26 (omega (arith, all_length))),
         (
           rw (length_read.0, eq-eqb (record_length r) (length r) (length_read.1 ∙ inv all_length)),
           (
             rw (
               base_digits,
-              le-ltb (baseAddress r) 25 (omega (arith, base_read)),
-              eq-eqb ((baseAddress r - 25) % 12) 0 (omega (arith, base_read)),
-              lt-ltb (baseAddress r) (length r) (omega (arith, base_read, all_length)),
+              le-ltb (base_address r) 25 (omega (arith, base_read)),
+              eq-eqb ((base_address r - 25) % 12) 0 (omega (arith, base_read)),
+              lt-ltb (base_address r) (length r) (omega (arith, base_read, all_length)),
             ),
             (
               place_none (entry_count r) (entry_fault r) no_fault,
               (
-                rw (eq-eqb (get_or r (baseAddress r - 1) 0) fieldMark directory_mark),
+                rw (eq-eqb (get_or r (base_address r - 1) 0) field_mark directory_mark),
                 (
-                  place_none (entry_count r) (λ e. unmarked r (field_end r e - 1) fieldMark) marks,
+                  place_none (entry_count r) (λ e. unmarked r (field_end r e - 1) field_mark) marks,
                   (rw (eq-eqb (get_or r (length r - 1) 0) record_mark last_mark), tt),
                 ),
               ),

@@ -7,9 +7,9 @@ use Prim.Native.Nat.{ℕ, zero, suc, ◌-◌, ◌/◌, ◌<◌}
 use native.Mathlib.Omega.{arith}
 use lib.ListN.{length, get_or, length-append, get_or-append}
 use borrow.Author.Tests.{ne_eqb}
-use Rattle.marc.specs.Frame.{Field, digitsAt, value_at, record_length}
+use Rattle.marc.specs.Frame.{Field, digits_at, value_at, record_length}
 use Rattle.marc.specs.Plain.{digit, length_of, Holds, record_of}
-use Rattle.marc.specs.Stream.{isBreak, behindBreaks, to_mark, as_said, size_of, Coming, comes, no_more, comingIn, next_in, records_from, records_in}
+use Rattle.marc.specs.Stream.{is_break_lem, behind_breaks, to_mark, as_said, size_of, Coming, comes, no_more, coming_in, next_in, records_from, records_in}
 use Rattle.marc.specs.Streaming.{LineEnds, joined, MadeUp, NothingLost, ComesWhole, ReadsBack, CasesRight}
 use Rattle.marc.proofs.Digits.{digits_front, decimal_front}
 use Rattle.marc.proofs.Plain.{all_length, length_read, last_mark}
@@ -20,37 +20,37 @@ use Rattle.marc.proofs.Streams.{Said, is_said, size-said, break_goes, break_stay
 -- those in front of an input
 abbrev breaks_in : List ℕ → List ℕ
 breaks_in [] = []
-breaks_in (b ∷ bs) = cond (isBreak b) (b ∷ breaks_in bs) []
+breaks_in (b ∷ bs) = cond (is_break_lem b) (b ∷ breaks_in bs) []
 
-breaks_all : (input : List ℕ) → input ≡ breaks_in input ++ behindBreaks input
-unfolding behindBreaks
+breaks_all : (input : List ℕ) → input ≡ breaks_in input ++ behind_breaks input
+unfolding behind_breaks
 breaks_all [] = refl
-breaks_all (b ∷ bs) = at_byte (breaks_all bs) (isBreak b)
+breaks_all (b ∷ bs) = at_byte (breaks_all bs) (is_break_lem b)
   where
-    at_byte : bs ≡ breaks_in bs ++ behindBreaks bs → (here : Bool) → b ∷ bs ≡ cond here (b ∷ breaks_in bs) [] ++ cond here (behindBreaks bs) (b ∷ bs)
+    at_byte : bs ≡ breaks_in bs ++ behind_breaks bs → (here : Bool) → b ∷ bs ≡ cond here (b ∷ breaks_in bs) [] ++ cond here (behind_breaks bs) (b ∷ bs)
     at_byte e true = ap (λ s. b ∷ s) e
     at_byte e false = refl
 
 breaks_are : (input : List ℕ) → LineEnds (breaks_in input)
 breaks_are [] = tt
-breaks_are (b ∷ bs) = at_byte (breaks_are bs) (isBreak b) refl
+breaks_are (b ∷ bs) = at_byte (breaks_are bs) (is_break_lem b) refl
   where
-    at_byte : LineEnds (breaks_in bs) → (here : Bool) → isBreak b ≡ here → LineEnds (cond here (b ∷ breaks_in bs) [])
+    at_byte : LineEnds (breaks_in bs) → (here : Bool) → is_break_lem b ≡ here → LineEnds (cond here (b ∷ breaks_in bs) [])
     at_byte rec true e = (e, rec)
     at_byte rec false e = tt
 
-behind_breaks : (breaks left : List ℕ) → LineEnds breaks → behindBreaks (breaks ++ left) ≡ behindBreaks left
-behind_breaks [] left a = refl
-behind_breaks (b ∷ bs) left a = break_goes b (bs ++ left) a.0 ∙ behind_breaks bs left a.1
+behind_breaks_lem : (breaks left : List ℕ) → LineEnds breaks → behind_breaks (breaks ++ left) ≡ behind_breaks left
+behind_breaks_lem [] left a = refl
+behind_breaks_lem (b ∷ bs) left a = break_goes b (bs ++ left) a.0 ∙ behind_breaks_lem bs left a.1
 
 -- LAW: line ends in front change nothing
 next_behind : (breaks left : List ℕ) → LineEnds breaks → next_in (breaks ++ left) ≡ next_in left
 unfolding next_in
-next_behind breaks left a = ap comingIn (behind_breaks breaks left a)
+next_behind breaks left a = ap coming_in (behind_breaks_lem breaks left a)
 
 -- ---- nothing is lost
 
-none_left : (s : List ℕ) → comingIn s ≡ no_more → s ≡ []
+none_left : (s : List ℕ) → coming_in s ≡ no_more → s ≡ []
 none_left [] e = refl
 none_left (b ∷ bs) e = let z : ◌≡◌ {A = ℕ} 0 1 = cc in absurd (omega arith)
 
@@ -74,7 +74,7 @@ made_up (suc n) input l = by_next (λ left. made_up n left) (next_in input) refl
           records = records_step input bytes left e ∙ ap (λ s. bytes ∷ s) rest.records;
         }
     by_next rec no_more e =
-        let breaks : breaks_in input ≡ input = inv (breaks_all input ∙ ap (λ s. breaks_in input ++ s) (none_left (behindBreaks input) e) ∙ append-nil _) in
+        let breaks : breaks_in input ≡ input = inv (breaks_all input ∙ ap (λ s. breaks_in input ++ s) (none_left (behind_breaks input) e) ∙ append-nil _) in
         record {
           pieces = [];
           last = input;
@@ -91,14 +91,14 @@ nothing_lost input = made_up (suc (length input)) input (omega arith)
 
 -- ---- records as one writes them
 
-no_break : (n : ℕ) → isBreak (digit n) ≡ false
+no_break : (n : ℕ) → is_break_lem (digit n) ≡ false
 no_break n = rw (ne_eqb (digit n) 10 (λ e. omega arith), ne_eqb (digit n) 13 (λ e. omega arith))
 
 module _ (one two : List ℕ) (fs : List Field) (left : List ℕ) (h : Holds one two fs) where
   abbrev r : List ℕ
   r = record_of one two fs
 
-  begins : behindBreaks (r ++ left) ≡ r ++ left
+  begins : behind_breaks (r ++ left) ≡ r ++ left
   unfolding record_of
   begins = break_stays (digit (length_of fs / 10000)) _ (no_break (length_of fs / 10000))
 
@@ -118,7 +118,7 @@ module _ (one two : List ℕ) (fs : List Field) (left : List ℕ) (h : Holds one
 
   comes_next : next_in (r ++ left) ≡ comes r left
   unfolding next_in
-  comes_next = ap comingIn begins ∙ coming_is r left (omega (arith, many)) (inv (size-said (r ++ left) (is_said (r ++ left) whole) ∙ says))
+  comes_next = ap coming_in begins ∙ coming_is r left (omega (arith, many)) (inv (size-said (r ++ left) (is_said (r ++ left) whole) ∙ says))
 
 -- THEOREM
 pub comes_whole : ComesWhole
@@ -126,7 +126,7 @@ comes_whole one two fs left h = comes_next one two fs left h
 
 -- THEOREM
 pub reads_back : ReadsBack
-unfolding next_in behindBreaks
+unfolding next_in behind_breaks
 reads_back [] last a ends = records_none last (ap next_in (inv (append-nil last)) ∙ next_behind last [] ends)
 reads_back (piece ∷ pieces) last a ends =
     let w = a.0 in
@@ -140,5 +140,5 @@ reads_back (piece ∷ pieces) last a ends =
 
 -- by computing
 pub cases_right : CasesRight
-unfolding records_in records_from next_in behindBreaks size_of as_said to_mark digitsAt value_at
+unfolding records_in records_from next_in behind_breaks size_of as_said to_mark digits_at value_at
 cases_right = (refl, (refl, (refl, (refl, (refl, (refl, (refl, tt)))))))

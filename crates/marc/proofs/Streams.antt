@@ -10,8 +10,8 @@ use lib.ListN.{length, get_or, take, drop, length-append, take-append-drop}
 use lib.Seq.{length-take-le, take_at, drop_at}
 use borrow.Author.Tests.{leb-true, eqb-true, le-leb, eq-eqb}
 use Rattle.theory.proofs.Lemmas.{and_left, and_right}
-use Rattle.marc.specs.Frame.{digitsAt, record_length, record_mark}
-use Rattle.marc.specs.Stream.{isBreak, behindBreaks, to_mark, as_said, size_of, Coming, comes, no_more, comingIn, next_in, with_next, records_from, records_in}
+use Rattle.marc.specs.Frame.{digits_at, record_length, record_mark}
+use Rattle.marc.specs.Stream.{is_break_lem, behind_breaks, to_mark, as_said, size_of, Coming, comes, no_more, coming_in, next_in, with_next, records_from, records_in}
 
 -- ---- the next mark
 
@@ -39,7 +39,7 @@ unless true n = absurd (n refl)
 unless false n = refl
 
 pub record Said (bytes : List ℕ) : Type 0 where
-  pub digits : digitsAt bytes 0 5 ≡ true
+  pub digits : digits_at bytes 0 5 ≡ true
   pub not_few : 26 ≤ record_length bytes
   pub there : record_length bytes ≤ length bytes
   pub marked : get_or bytes (record_length bytes - 1) 0 ≡ record_mark
@@ -47,7 +47,7 @@ pub record Said (bytes : List ℕ) : Type 0 where
 pub said : (bytes : List ℕ) → as_said bytes ≡ true → Said bytes
 unfolding as_said
 said bytes e =
-    let d = digitsAt bytes 0 5 in
+    let d = digits_at bytes 0 5 in
     let f = leb 26 (record_length bytes) in
     let t = leb (record_length bytes) (length bytes) in
     let m = eqb (get_or bytes (record_length bytes - 1) 0) record_mark in
@@ -61,7 +61,7 @@ said bytes e =
     }
 
 -- LAW: and if one of these fails, it is not
-pub not_digits : (bytes : List ℕ) → digitsAt bytes 0 5 ≡ false → as_said bytes ≡ false
+pub not_digits : (bytes : List ℕ) → digits_at bytes 0 5 ≡ false → as_said bytes ≡ false
 not_digits bytes d = unless (as_said bytes) (λ e. let z : ◌≡◌ {A = ℕ} 0 1 = cc (said bytes e).digits in omega arith)
 
 pub too_few : (bytes : List ℕ) → record_length bytes < 26 → as_said bytes ≡ false
@@ -102,20 +102,20 @@ size_pos b bs = by_test (as_said (b ∷ bs)) refl
 -- ---- what comes next
 
 -- LAW: a line end in front is passed over, and no other byte
-pub break_goes : (b : ℕ) (bs : List ℕ) → isBreak b ≡ true → behindBreaks (b ∷ bs) ≡ behindBreaks bs
-unfolding behindBreaks
+pub break_goes : (b : ℕ) (bs : List ℕ) → is_break_lem b ≡ true → behind_breaks (b ∷ bs) ≡ behind_breaks bs
+unfolding behind_breaks
 break_goes b bs e = rw e
 
-pub break_stays : (b : ℕ) (bs : List ℕ) → isBreak b ≡ false → behindBreaks (b ∷ bs) ≡ b ∷ bs
-unfolding behindBreaks
+pub break_stays : (b : ℕ) (bs : List ℕ) → is_break_lem b ≡ false → behind_breaks (b ∷ bs) ≡ b ∷ bs
+unfolding behind_breaks
 break_stays b bs e = rw e
 
-pub breaks_most : (input : List ℕ) → length (behindBreaks input) ≤ length input
-unfolding behindBreaks
+pub breaks_most : (input : List ℕ) → length (behind_breaks input) ≤ length input
+unfolding behind_breaks
 breaks_most [] = omega arith
-breaks_most (b ∷ bs) = at_byte (breaks_most bs) (isBreak b)
+breaks_most (b ∷ bs) = at_byte (breaks_most bs) (is_break_lem b)
   where
-    at_byte : length (behindBreaks bs) ≤ length bs → (here : Bool) → length (cond here (behindBreaks bs) (b ∷ bs)) ≤ suc (length bs)
+    at_byte : length (behind_breaks bs) ≤ length bs → (here : Bool) → length (cond here (behind_breaks bs) (b ∷ bs)) ≤ suc (length bs)
     at_byte l true = omega arith
     at_byte l false = omega arith
 
@@ -125,7 +125,7 @@ pub record Parted (bytes left all : List ℕ) : Type 0 where
   pub long : length bytes ≡ size_of all
   pub whole : all ≡ bytes ++ left
 
-pub parted : (all bytes left : List ℕ) → comingIn all ≡ comes bytes left → Parted bytes left all
+pub parted : (all bytes left : List ℕ) → coming_in all ≡ comes bytes left → Parted bytes left all
 parted [] bytes left e = let z : ◌≡◌ {A = ℕ} 0 1 = cc in absurd (omega arith)
 parted (b ∷ bs) bytes left e =
     let first : take (size_of (b ∷ bs)) (b ∷ bs) ≡ bytes = cc in
@@ -138,13 +138,13 @@ parted (b ∷ bs) bytes left e =
     }
 
 -- LAW: bytes of the size that is said come next
-pub coming_is : (bytes left : List ℕ) → 1 ≤ length bytes → length bytes ≡ size_of (bytes ++ left) → comingIn (bytes ++ left) ≡ comes bytes left
+pub coming_is : (bytes left : List ℕ) → 1 ≤ length bytes → length bytes ≡ size_of (bytes ++ left) → coming_in (bytes ++ left) ≡ comes bytes left
 coming_is [] left some long = absurd (omega arith)
 coming_is (b ∷ bs) left some long = ap₂ comes (take_at (b ∷ bs) left (size_of (b ∷ (bs ++ left))) long) (drop_at (b ∷ bs) left (size_of (b ∷ (bs ++ left))) long)
 
-pub next_parted : (input bytes left : List ℕ) → next_in input ≡ comes bytes left → Parted bytes left (behindBreaks input)
+pub next_parted : (input bytes left : List ℕ) → next_in input ≡ comes bytes left → Parted bytes left (behind_breaks input)
 unfolding next_in
-next_parted input bytes left e = parted (behindBreaks input) bytes left e
+next_parted input bytes left e = parted (behind_breaks input) bytes left e
 
 -- LAW: what is left is shorter
 pub left_shorter : (input bytes left : List ℕ) → next_in input ≡ comes bytes left → length left < length input
@@ -155,7 +155,7 @@ left_shorter input bytes left e =
 -- ---- all records
 
 from_none : (n : ℕ) → records_from n [] ≡ []
-unfolding records_from next_in behindBreaks
+unfolding records_from next_in behind_breaks
 from_none zero = refl
 from_none (suc n) = refl
 

@@ -11,7 +11,7 @@ use borrow.Author.Tests.{ne_eqb, le-ltb}
 use Rattle.meaning.specs.Refusals.{first, row8-output}
 use Rattle.meaning.specs.Calls.{gives, aye}
 use Rattle.meaning.proofs.First.{Silent, first-append, none_below, silent_first}
-use Rattle.marc.specs.Frame.{frameRows}
+use Rattle.marc.specs.Frame.{frame_rows}
 use Rattle.marc.specs.Subfields.{subfield_mark, subfield}
 use Rattle.marc.specs.Known.{Known, string_of, number_of, entry_of, bad_entry_lem, row19}
 use Rattle.marc.specs.Heading.{tag100, code_a, code_d, first_with, then_in, field100, name_in, dates_in, row20, row21, row22, unlisted, node_of, heading_rows, heading_of, headed, later_nodes, heading_call}
@@ -41,14 +41,14 @@ module _ (ks : List Known) (absent : ℕ) where
 
 -- a record with these name and dates is answered with their numbers
 module _ (r : List ℕ) (ks : List Known) (heading absent : ℕ) (output : List ℕ) (content name : List ℕ) (name_node dates_node : ℕ) where
-  module _ (fine : FineList ks absent) (room : 3 ≤ length output) (frame : first (frameRows r) ≡ none) (c : field100 r ≡ just content) (n : name_in r ≡ just name) where
+  module _ (fine : FineList ks absent) (room : 3 ≤ length output) (frame : first (frame_rows r) ≡ none) (c : field100 r ≡ just content) (n : name_in r ≡ just name) where
     silent : unlisted ks (just name) ≡ false → unlisted ks (dates_in r) ≡ false → first (heading_rows r ks heading absent output) ≡ none
     unfolding heading_rows row8-output row20 row21 row22
     silent a d =
         let last = row20 r ∷ row21 r ∷ row22 ks r ∷ [] in
-        first-append (row19 ks absent ∷ row8-output 3 output ∷ []) (frameRows r ++ last)
+        first-append (row19 ks absent ∷ row8-output 3 output ∷ []) (frame_rows r ++ last)
         (silent_first (row19 ks absent ∷ row8-output 3 output ∷ []) (fine_list ks absent fine, (rw (le-ltb (length output) 3 room), tt)))
-        ∙ first-append (frameRows r) last frame
+        ∙ first-append (frame_rows r) last frame
         ∙ silent_first last (rw c, (rw n, (rw (n, a, d), tt)))
 
     answers : Listed ks name name_node → DatesNode ks absent (dates_in r) dates_node

@@ -4,7 +4,7 @@ use Rattle.std.proofs.Math.Option.{Option, none, some as just}
 use Rattle.theory.specs.Least.{or_else}
 use Rattle.meaning.specs.Refusals.{Refusal, Row, row, at0, first, row8-output}
 use Rattle.meaning.specs.Calls.{Answer, Yes, aye, unless}
-use Rattle.marc.specs.Frame.{Field, field, fields_in, frameRows, at_if}
+use Rattle.marc.specs.Frame.{Field, field, fields_in, frame_rows, at_if}
 use Rattle.marc.specs.Subfields.{subfield}
 use Rattle.marc.specs.Known.{Known, same, number_in, row19}
 
@@ -73,7 +73,7 @@ pub record HeadedBy : Type 0 where
 
 module _ (r : List ℕ) (ks : List Known) (heading absent : ℕ) (output : List ℕ) where
   unfoldable pub heading_rows : List Row
-  heading_rows = row19 ks absent ∷ row8-output 3 output ∷ (frameRows r ++ (row20 r ∷ row21 r ∷ row22 ks r ∷ []))
+  heading_rows = row19 ks absent ∷ row8-output 3 output ∷ (frame_rows r ++ (row20 r ∷ row21 r ∷ row22 ks r ∷ []))
 
   -- the three nodes
   unfoldable pub heading_of : List ℕ

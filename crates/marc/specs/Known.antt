@@ -3,7 +3,7 @@
 -- the shorter one counts; what would lie behind the last byte is not there.
 use Rattle.std.specs.Prelude.{List, [], ◌∷◌, Bool, true, false, ◌&&◌, ◌||◌, cond, ℕ, ◌-◌, eqb, length, get_or, take, drop}
 use Rattle.std.proofs.Math.Option.{Option, none, some as just}
-use Rattle.theory.specs.Least.{some, leastBelow}
+use Rattle.theory.specs.Least.{some, least_below}
 use Rattle.meaning.specs.Refusals.{Row, row}
 
 -- a string and its number
@@ -49,4 +49,4 @@ abbrev pub bad_entry_lem : List Known → ℕ → ℕ → Bool
 bad_entry_lem ks absent j = listed_before ks j || eqb (number_of (entry_of ks j)) absent
 
 unfoldable pub row19 : List Known → ℕ → Row
-row19 ks absent = row 19 (leastBelow (length ks) (bad_entry_lem ks absent))
+row19 ks absent = row 19 (least_below (length ks) (bad_entry_lem ks absent))

@@ -1,7 +1,7 @@
 -- A record as one would write it: the fields one after the other, and before them a directory that says where each is.
 use Rattle.std.specs.Prelude.{◌≡◌, List, [], ◌∷◌, ◌++◌, ℕ, ◌+◌, ◌*◌, ◌/◌, ◌%◌, ◌≤◌, length}
 use Rattle.theory.specs.Least.{All}
-use Rattle.marc.specs.Frame.{Field, field, fieldMark, record_mark}
+use Rattle.marc.specs.Frame.{Field, field, field_mark, record_mark}
 use Rattle.marc.specs.Subfields.{subfield_mark}
 
 -- ---- digits
@@ -18,7 +18,7 @@ five_digits n = digit (n / 10000) ∷ four_digits n
 -- ---- fields
 
 abbrev pub field_bytes : Field → List ℕ
-field_bytes (field tag content) = content ++ (fieldMark ∷ [])
+field_bytes (field tag content) = content ++ (field_mark ∷ [])
 
 abbrev pub tag_of : Field → List ℕ
 tag_of (field tag content) = tag
@@ -41,7 +41,7 @@ length_of fs = base_of fs + length (fields_bytes fs) + 1
 -- The record: what the leader has beside the two numbers, seven bytes and seven, is of no account.
 unfoldable pub record_of : List ℕ → List ℕ → List Field → List ℕ
 record_of one two fs =
-    five_digits (length_of fs) ++ (one ++ (five_digits (base_of fs) ++ (two ++ (directory 0 fs ++ (fieldMark ∷ (fields_bytes fs ++ (record_mark ∷ [])))))))
+    five_digits (length_of fs) ++ (one ++ (five_digits (base_of fs) ++ (two ++ (directory 0 fs ++ (field_mark ∷ (fields_bytes fs ++ (record_mark ∷ [])))))))
 
 -- A field that a directory can tell of; fields that a record can hold.
 pub record Fits (f : Field) : Type 0 where

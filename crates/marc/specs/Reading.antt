@@ -3,11 +3,11 @@ use Rattle.std.specs.Prelude.{◌≡◌, ◌⊎◌, List, [], ◌∷◌, ◌++�
 use Rattle.std.proofs.Math.Option.{Option, none, some as just}
 use Rattle.theory.specs.Least.{All}
 use Rattle.theory.specs.Pairs.{pair, is_pair}
-use Rattle.meaning.specs.File.{symbolCount, pairCount, pairsIn}
+use Rattle.meaning.specs.File.{symbol_count_lem, pair_count_lem, pairs_in}
 use Rattle.meaning.specs.Refusals.{row_number, first, SoundFile}
 use Rattle.meaning.specs.Calls.{Answer, aye, refused, gives}
 use Rattle.meaning.specs.Demands.{Exactly}
-use Rattle.marc.specs.Frame.{Field, field, fieldMark, record_mark, digitsAt, baseAddress, entry_count, entry_at, field_at, field_length, field_end, fields_in, frameRows}
+use Rattle.marc.specs.Frame.{Field, field, field_mark, record_mark, digits_at, base_address, entry_count, entry_at, field_at, field_length, field_end, fields_in, frame_rows}
 use Rattle.marc.specs.Subfields.{subfield_mark, subfield}
 use Rattle.marc.specs.Known.{Known, string_of, number_of, entry_of}
 use Rattle.marc.specs.Heading.{tag100, code_a, code_d, heading_rows, HeadedBy}
@@ -17,22 +17,22 @@ use Rattle.marc.specs.Plain.{Holds, tag_of, record_of, Subfield, coded, FineSubf
 
 -- Records as one writes them pass the frame's tests, and are read as the fields that were written, in that order.
 abbrev pub ReadsPlain : Type 0
-ReadsPlain = (one two : List ℕ) (fs : List Field) → Holds one two fs → (first (frameRows (record_of one two fs)) ≡ none) × (fields_in (record_of one two fs) ≡ fs)
+ReadsPlain = (one two : List ℕ) (fs : List Field) → Holds one two fs → (first (frame_rows (record_of one two fs)) ≡ none) × (fields_in (record_of one two fs) ≡ fs)
 
 -- Of any record that passes: its numbers are digits, and each field lies between the base address and the last byte, with its 1E.
 pub record FieldStands (r : List ℕ) (e : ℕ) : Type 0 where
-  pub length_digits : digitsAt r (entry_at e + 3) 4 ≡ true
-  pub start_digits : digitsAt r (entry_at e + 7) 5 ≡ true
-  pub behind : baseAddress r ≤ field_at r e
+  pub length_digits : digits_at r (entry_at e + 3) 4 ≡ true
+  pub start_digits : digits_at r (entry_at e + 7) 5 ≡ true
+  pub behind : base_address r ≤ field_at r e
   pub not_empty : 0 < field_length r e
   pub before_last : field_end r e < length r
-  pub ended : get_or r (field_end r e - 1) 0 ≡ fieldMark
+  pub ended : get_or r (field_end r e - 1) 0 ≡ field_mark
 
 pub record Framed (r : List ℕ) : Type 0 where
-  pub base_digits : digitsAt r 12 5 ≡ true
-  pub base_inside : baseAddress r < length r
-  pub directory_fits : baseAddress r ≡ 25 + 12 * entry_count r
-  pub directory_ended : get_or r (baseAddress r - 1) 0 ≡ fieldMark
+  pub base_digits : digits_at r 12 5 ≡ true
+  pub base_inside : base_address r < length r
+  pub directory_fits : base_address r ≡ 25 + 12 * entry_count r
+  pub directory_ended : get_or r (base_address r - 1) 0 ≡ field_mark
   pub each : (e : ℕ) → e < entry_count r → FieldStands r e
   pub ended : get_or r (length r - 1) 0 ≡ record_mark
 
@@ -107,11 +107,11 @@ pub record HeadingLeaves (output : List ℕ) (given : HeadedBy) : Type 0 where
   pub same_length : length given.output ≡ length output
 
 -- Absent dates are never the same as given ones: their nodes differ, and so in any table their degree is what a listed pair says, else 0.
-pub record AbsentApart (degreeOf : (table : List ℕ) (a b : ℕ) → Answer ℕ) (ks : List Known) (absent : ℕ) : Type 0 where
+pub record AbsentApart (degree_of : (table : List ℕ) (a b : ℕ) → Answer ℕ) (ks : List Known) (absent : ℕ) : Type 0 where
   pub nodes_differ : (string : List ℕ) (node : ℕ) → Listed ks string node → node ≡ absent → ⊥
-  pub unless-listed : (table string : List ℕ) (node : ℕ) → SoundFile table → absent < symbolCount table → node < symbolCount table → Listed ks string node
-      → ((k l h d : ℕ) → k < pairCount table → get_or (pairsIn table) k (pair 0 0 0) ≡ pair l h d → is_pair l h absent node ≡ false)
-      → degreeOf table absent node ≡ gives 0
+  pub unless-listed : (table string : List ℕ) (node : ℕ) → SoundFile table → absent < symbol_count_lem table → node < symbol_count_lem table → Listed ks string node
+      → ((k l h d : ℕ) → k < pair_count_lem table → get_or (pairs_in table) k (pair 0 0 0) ≡ pair l h d → is_pair l h absent node ≡ false)
+      → degree_of table absent node ≡ gives 0
 
 -- ---- records as one writes them, through the whole call
 

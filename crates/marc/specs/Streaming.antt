@@ -3,7 +3,7 @@ use Rattle.std.specs.Prelude.{◌≡◌, List, [], ◌∷◌, ◌++◌, map, tru
 use Rattle.theory.specs.Least.{All}
 use Rattle.marc.specs.Frame.{Field}
 use Rattle.marc.specs.Plain.{five_digits, Holds, record_of}
-use Rattle.marc.specs.Stream.{isBreak, comes, next_in, records_in}
+use Rattle.marc.specs.Stream.{is_break_lem, comes, next_in, records_in}
 
 -- Some line ends, and a record behind them.
 pub record Piece : Type 0 where
@@ -11,7 +11,7 @@ pub record Piece : Type 0 where
   pub bytes : List ℕ
 
 abbrev pub LineEnds : List ℕ → Type 0
-LineEnds = All (λ b. isBreak b ≡ true)
+LineEnds = All (λ b. is_break_lem b ≡ true)
 
 -- pieces one behind the other, and then some more bytes
 abbrev pub joined : List Piece → List ℕ → List ℕ

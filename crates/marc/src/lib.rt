@@ -1,2 +1,1 @@
 // Headings from exchange records: definitions and statements stand in specs/, laws in proofs/.
-#![tactic(auto)]

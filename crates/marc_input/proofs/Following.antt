@@ -11,7 +11,7 @@ use Rattle.input.specs.declared.reading.Unread.{Unread}
 use Rattle.input.specs.Unreads.{ReadBy}
 use Rattle.input.proofs.Unused.{length-unread}
 use Rattle.marc_input.specs.declared.rest.Rest.{Rest}
-use Rattle.marc_input.specs.Rests.{Held, restIn, MayFollow, MoreBy, FilledBy}
+use Rattle.marc_input.specs.Rests.{Held, rest_in, MayFollow, MoreBy, FilledBy}
 
 -- LAW: nothing was read
 pub nothing_more : (before : List ℕ) (rest : Rest) → Held before rest → MoreBy before rest [] rest before
@@ -79,5 +79,5 @@ module _ (before : List ℕ) (rest : Rest) (wanted : ℕ) (now : Rest) (after : 
         length-unread before rest.at rest.end held.1,
         length-unread after now.at now.end f.read.held.1,
         ap length f.follows,
-        length-append (restIn before rest) f.more,
+        length-append (rest_in before rest) f.more,
       )

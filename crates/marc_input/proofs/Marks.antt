@@ -13,7 +13,7 @@ use Rattle.marc_record.proofs.Numbers.{left_suc}
 use Rattle.marc.specs.Frame.{record_mark}
 use Rattle.marc.specs.Stream.{to_mark}
 use Rattle.marc.proofs.Streams.{mark_some}
-use Rattle.marc_input.specs.Passing.{NoMark, MarkBy, behindMark}
+use Rattle.marc_input.specs.Passing.{NoMark, MarkBy, behind_mark}
 
 -- ---- the bytes from one place to another, in parts
 
@@ -49,11 +49,11 @@ no_mark_both s t m n beyond = ap to_mark (append_assoc s t beyond) ∙ m (t ++ b
 pub no_mark_rest : (s t : List ℕ) → NoMark s → NoMark (s ++ t) → NoMark t
 no_mark_rest s t m n beyond = omega (arith, m (t ++ beyond), n beyond, ap to_mark (append_assoc s t beyond), length-append s t)
 
-pub behind_none : behindMark [] ≡ []
+pub behind_none : behind_mark [] ≡ []
 behind_none = drop-nil (to_mark [])
 
 -- LAW: what is behind the next mark is so behind bytes without one too
-pub no_mark_behind : (s : List ℕ) → NoMark s → (x : List ℕ) → behindMark (s ++ x) ≡ behindMark x
+pub no_mark_behind : (s : List ℕ) → NoMark s → (x : List ℕ) → behind_mark (s ++ x) ≡ behind_mark x
 no_mark_behind s m x = rw (m x) (drop-append-add s x (to_mark x))
 
 -- ---- the first mark
@@ -95,7 +95,7 @@ module _ (buffer : List ℕ) (from to place : ℕ) (m : MarkBy (unread buffer fr
   marked_length beyond = omega (arith, length-unread buffer from (place + 1) (omega arith), m.marked l beyond, m.rising)
 
   -- LAW: what is behind the mark that was found
-  pub mark_leaves : (beyond : List ℕ) → behindMark (unread buffer from to ++ beyond) ≡ unread buffer (place + 1) to ++ beyond
+  pub mark_leaves : (beyond : List ℕ) → behind_mark (unread buffer from to ++ beyond) ≡ unread buffer (place + 1) to ++ beyond
   mark_leaves beyond =
       ap (drop (to_mark (unread buffer from to ++ beyond))) (ap (λ s. s ++ beyond) marked_parts ∙ append_assoc (unread buffer from (place + 1)) (unread buffer (place + 1) to) beyond)
       ∙ drop_at (unread buffer from (place + 1)) (unread buffer (place + 1) to ++ beyond) (to_mark (unread buffer from to ++ beyond)) (marked_length beyond)

@@ -8,11 +8,11 @@ use native.Mathlib.Omega.{arith}
 use lib.ListN.{length, get_or, length-append}
 use Rattle.input.specs.Unreads.{unread}
 use Rattle.input.proofs.Unused.{length-unread, unread-none}
-use Rattle.marc.specs.Stream.{isBreak, behindBreaks}
+use Rattle.marc.specs.Stream.{is_break_lem, behind_breaks}
 use Rattle.marc.proofs.Streams.{break_goes, break_stays}
 use Rattle.marc_input.specs.declared.rest.Rest.{Rest}
 use Rattle.marc_input.specs.declared.passing.Passed.TheVariants.{Endless}
-use Rattle.marc_input.specs.Rests.{Held, restIn, MayFollow, MoreBy, FilledBy}
+use Rattle.marc_input.specs.Rests.{Held, rest_in, MayFollow, MoreBy, FilledBy}
 use Rattle.marc_input.specs.Passing.{uncounted, PassedTo, PassedBy}
 use Rattle.marc_input.proofs.Following.{nothing_more, read_on, use_to, filled_out}
 use Rattle.marc_input.proofs.Marks.{unread_parts, unread-first, unread_one}
@@ -21,7 +21,7 @@ pub record Passing (behind : List ℕ → List ℕ) (before : List ℕ) (rest : 
   pub gone : List ℕ
   pub more : List ℕ
   pub read : MoreBy before rest more now buffer
-  pub all : restIn before rest ++ more ≡ gone ++ restIn buffer now
+  pub all : rest_in before rest ++ more ≡ gone ++ rest_in buffer now
   pub passes : (left : List ℕ) → behind (gone ++ left) ≡ behind left
   pub many : counter ≤ length gone
 
@@ -37,9 +37,9 @@ module _ (behind : List ℕ → List ℕ) (before : List ℕ) (rest : Rest) wher
       more = p.more ++ f.more;
       read = read_on before rest p.more now buffer p.read f.more next after f.read;
       all =
-          inv (append_assoc (restIn before rest) p.more f.more)
+          inv (append_assoc (rest_in before rest) p.more f.more)
           ∙ ap (λ s. s ++ f.more) p.all
-          ∙ append_assoc p.gone (restIn buffer now) f.more
+          ∙ append_assoc p.gone (rest_in buffer now) f.more
           ∙ ap (λ s. p.gone ++ s) (inv f.follows);
       passes = p.passes;
       many = p.many;
@@ -60,45 +60,45 @@ module _ (behind : List ℕ → List ℕ) (before : List ℕ) (rest : Rest) wher
         }
 
     -- LAW: what is sought begins here
-    pub passing_to : (to : ℕ) → to ≤ now.end → ((beyond : List ℕ) → MayFollow now beyond → behind (restIn buffer now ++ beyond) ≡ unread buffer to now.end ++ beyond)
+    pub passing_to : (to : ℕ) → to ≤ now.end → ((beyond : List ℕ) → MayFollow now beyond → behind (rest_in buffer now ++ beyond) ≡ unread buffer to now.end ++ beyond)
         → PassedTo behind before rest (record { at = to; end = now.end; over = now.over }) buffer
     passing_to to k h = record {
       more = p.more;
       read = use_to before rest p.more now buffer p.read to k;
       leaves = λ beyond may.
           ap (λ s. behind (s ++ beyond)) p.all
-          ∙ ap behind (append_assoc p.gone (restIn buffer now) beyond)
-          ∙ p.passes (restIn buffer now ++ beyond)
+          ∙ ap behind (append_assoc p.gone (rest_in buffer now) beyond)
+          ∙ p.passes (rest_in buffer now ++ beyond)
           ∙ h beyond may;
     }
 
     -- LAW: as many turns as can be counted passed over as many bytes
     pub passing_endless : uncounted ≤ counter → PassedBy behind before rest Endless buffer
-    passing_endless l = (p.more, p.read.may_follow, omega (arith, ap length p.all, length-append p.gone (restIn buffer now), p.many))
+    passing_endless l = (p.more, p.read.may_follow, omega (arith, ap length p.all, length-append p.gone (rest_in buffer now), p.many))
 
 -- ---- no byte is there
 
 module _ (before : List ℕ) (rest now : Rest) (after : List ℕ) (f : FilledBy before rest 1 now after) (e : now.at ≡ now.end) where
   -- LAW: then the input is over, and nothing is behind
-  pub none_behind : (behind : List ℕ → List ℕ) → behind [] ≡ [] → (beyond : List ℕ) → MayFollow now beyond → behind (restIn after now ++ beyond) ≡ restIn after now ++ beyond
+  pub none_behind : (behind : List ℕ → List ℕ) → behind [] ≡ [] → (beyond : List ℕ) → MayFollow now beyond → behind (rest_in after now ++ beyond) ≡ rest_in after now ++ beyond
   none_behind behind none beyond may =
-      let nothing : restIn after now ≡ [] = ap (λ k. unread after k now.end) e ∙ unread-none after now.end in
-      let all : restIn after now ++ beyond ≡ [] = ap₂ ◌++◌ nothing (may (filled_out before rest 1 now after f (omega arith))) in
+      let nothing : rest_in after now ≡ [] = ap (λ k. unread after k now.end) e ∙ unread-none after now.end in
+      let all : rest_in after now ++ beyond ≡ [] = ap₂ ◌++◌ nothing (may (filled_out before rest 1 now after f (omega arith))) in
       ap behind all ∙ none ∙ inv all
 
 -- ---- line ends
 
-pub no_break_none : behindBreaks [] ≡ []
-unfolding behindBreaks
+pub no_break_none : behind_breaks [] ≡ []
+unfolding behind_breaks
 no_break_none = refl
 
 module _ (buffer : List ℕ) (at : ℕ) where
   -- LAW: a line end is passed over
-  pub break_passes : at < length buffer → isBreak (get_or buffer at 0) ≡ true → (left : List ℕ) → behindBreaks (unread buffer at (at + 1) ++ left) ≡ behindBreaks left
-  break_passes l e left = ap (λ s. behindBreaks (s ++ left)) (unread_one buffer at l) ∙ break_goes (get_or buffer at 0) left e
+  pub break_passes : at < length buffer → is_break_lem (get_or buffer at 0) ≡ true → (left : List ℕ) → behind_breaks (unread buffer at (at + 1) ++ left) ≡ behind_breaks left
+  break_passes l e left = ap (λ s. behind_breaks (s ++ left)) (unread_one buffer at l) ∙ break_goes (get_or buffer at 0) left e
 
   -- LAW: and no other byte
-  pub break_stops : (end : ℕ) → at < end → end ≤ length buffer → isBreak (get_or buffer at 0) ≡ false
-      → (beyond : List ℕ) → behindBreaks (unread buffer at end ++ beyond) ≡ unread buffer at end ++ beyond
+  pub break_stops : (end : ℕ) → at < end → end ≤ length buffer → is_break_lem (get_or buffer at 0) ≡ false
+      → (beyond : List ℕ) → behind_breaks (unread buffer at end ++ beyond) ≡ unread buffer at end ++ beyond
   break_stops end l k e beyond =
-      subst (λ s. behindBreaks (s ++ beyond) ≡ s ++ beyond) (inv (unread-first buffer at end l k)) (break_stays (get_or buffer at 0) (unread buffer (at + 1) end ++ beyond) e)
+      subst (λ s. behind_breaks (s ++ beyond) ≡ s ++ beyond) (inv (unread-first buffer at end l k)) (break_stays (get_or buffer at 0) (unread buffer (at + 1) end ++ beyond) e)

@@ -13,27 +13,27 @@ use borrow.Author.Tests.{le-leb, leb-true, eqb-true, eqb-false}
 use Rattle.theory.proofs.Lemmas.{and_left, and_right}
 use Rattle.input.specs.Unreads.{unread}
 use Rattle.input.proofs.Unused.{length-unread}
-use Rattle.marc.specs.Frame.{record_mark, digitsAt, decimalAt, record_length}
-use Rattle.marc.specs.Stream.{size_of, comingIn}
+use Rattle.marc.specs.Frame.{record_mark, digits_at, decimal_at, record_length}
+use Rattle.marc.specs.Stream.{size_of, coming_in}
 use Rattle.marc.proofs.Digits.{digits_behind, decimal_behind, digits_front, decimal_front, digits_there, five_most}
 use Rattle.marc.proofs.Streams.{is_said, not_digits, too_few, not_there, not_marked, size-said, coming_is}
 use Rattle.marc_input.specs.declared.rest.Rest.{Rest}
 use Rattle.marc_input.specs.declared.cutting.Cut.TheVariants.{Whole}
-use Rattle.marc_input.specs.Rests.{Held, restIn, FilledBy}
-use Rattle.marc_input.specs.Cuts.{ComesBy, Says, NotAsSaid, SaidBy, endsMarked}
+use Rattle.marc_input.specs.Rests.{Held, rest_in, FilledBy}
+use Rattle.marc_input.specs.Cuts.{ComesBy, Says, NotAsSaid, SaidBy, ends_marked_lem}
 use Rattle.marc_input.proofs.Following.{use_to, filled_out}
 use Rattle.marc_input.proofs.Marks.{unread_parts}
 
 module _ (buffer : List ℕ) (rest : Rest) (held : Held buffer rest) where
   abbrev S : List ℕ
-  S = restIn buffer rest
+  S = rest_in buffer rest
 
   nothing_said : NotAsSaid buffer rest → SaidBy buffer rest 0
   nothing_said n = record { most = omega arith; not_said = λ _. n; says = λ l. absurd (omega arith) }
 
   -- LAW: the input is over before five bytes
   pub said_short : (rest.over ≡ false → 5 ≤ rest.end - rest.at) → rest.end - rest.at < 5 → SaidBy buffer rest 0
-  said_short goes_on l = nothing_said (λ beyond may. not_digits (S ++ beyond) (by_digits beyond (may over) (digitsAt (S ++ beyond) 0 5) refl))
+  said_short goes_on l = nothing_said (λ beyond may. not_digits (S ++ beyond) (by_digits beyond (may over) (digits_at (S ++ beyond) 0 5) refl))
     where
       over : rest.over ≡ true
       over = by_over rest.over refl
@@ -42,7 +42,7 @@ module _ (buffer : List ℕ) (rest : Rest) (held : Held buffer rest) where
           by_over true e = refl
           by_over false e = absurd (omega (arith, goes_on e))
 
-      by_digits : (beyond : List ℕ) → beyond ≡ [] → (d : Bool) → digitsAt (S ++ beyond) 0 5 ≡ d → d ≡ false
+      by_digits : (beyond : List ℕ) → beyond ≡ [] → (d : Bool) → digits_at (S ++ beyond) 0 5 ≡ d → d ≡ false
       by_digits beyond e true d =
           absurd (omega (arith, digits_there (S ++ beyond) 0 5 (omega arith) d, length-append S beyond, ap length e, length-unread buffer rest.at rest.end held.1))
       by_digits beyond e false d = refl
@@ -58,56 +58,56 @@ module _ (buffer : List ℕ) (rest : Rest) (held : Held buffer rest) where
     abbrev tail : List ℕ
     tail = drop rest.at buffer
 
-    digits_in : (beyond : List ℕ) → digitsAt (S ++ beyond) 0 5 ≡ digitsAt buffer rest.at 5
+    digits_in : (beyond : List ℕ) → digits_at (S ++ beyond) 0 5 ≡ digits_at buffer rest.at 5
     digits_in beyond =
         digits_front S beyond 0 5 there
         ∙ inv (digits_front S (drop (rest.end - rest.at) tail) 0 5 there)
-        ∙ ap (λ s. digitsAt s 0 5) (take-append-drop (rest.end - rest.at) tail)
+        ∙ ap (λ s. digits_at s 0 5) (take-append-drop (rest.end - rest.at) tail)
         ∙ inv (digits_behind (take rest.at buffer) tail rest.at 5 here)
-        ∙ ap (λ s. digitsAt s rest.at 5) (take-append-drop rest.at buffer)
+        ∙ ap (λ s. digits_at s rest.at 5) (take-append-drop rest.at buffer)
 
-    length_in : (beyond : List ℕ) → record_length (S ++ beyond) ≡ decimalAt buffer rest.at 5
-    length_in beyond =
+    length_in_lem : (beyond : List ℕ) → record_length (S ++ beyond) ≡ decimal_at buffer rest.at 5
+    length_in_lem beyond =
         decimal_front S beyond 0 5 there
         ∙ inv (decimal_front S (drop (rest.end - rest.at) tail) 0 5 there)
-        ∙ ap (λ s. decimalAt s 0 5) (take-append-drop (rest.end - rest.at) tail)
+        ∙ ap (λ s. decimal_at s 0 5) (take-append-drop (rest.end - rest.at) tail)
         ∙ inv (decimal_behind (take rest.at buffer) tail rest.at 5 here)
-        ∙ ap (λ s. decimalAt s rest.at 5) (take-append-drop rest.at buffer)
+        ∙ ap (λ s. decimal_at s rest.at 5) (take-append-drop rest.at buffer)
 
     -- LAW: they are no digits
-    pub said_other : digitsAt buffer rest.at 5 ≡ false → SaidBy buffer rest 0
+    pub said_other : digits_at buffer rest.at 5 ≡ false → SaidBy buffer rest 0
     said_other e = nothing_said (λ beyond may. not_digits (S ++ beyond) (digits_in beyond ∙ e))
 
-    module _ (count : ℕ) (is : count ≡ decimalAt buffer rest.at 5) where
+    module _ (count : ℕ) (is : count ≡ decimal_at buffer rest.at 5) where
       -- LAW: they say too few
       pub said_few : count < 26 → SaidBy buffer rest 0
-      said_few l = nothing_said (λ beyond may. too_few (S ++ beyond) (omega (arith, length_in beyond)))
+      said_few l = nothing_said (λ beyond may. too_few (S ++ beyond) (omega (arith, length_in_lem beyond)))
 
       -- LAW: they say so many
-      pub said_many : digitsAt buffer rest.at 5 ≡ true → 26 ≤ count → SaidBy buffer rest count
+      pub said_many : digits_at buffer rest.at 5 ≡ true → 26 ≤ count → SaidBy buffer rest count
       said_many e l = record {
-        most = omega (arith, length_in [], five_most (S ++ []) (digits_in [] ∙ e));
+        most = omega (arith, length_in_lem [], five_most (S ++ []) (digits_in [] ∙ e));
         not_said = λ z. absurd (omega arith);
-        says = λ _. (l, λ beyond. (digits_in beyond ∙ e, length_in beyond ∙ inv is));
+        says = λ _. (l, λ beyond. (digits_in beyond ∙ e, length_in_lem beyond ∙ inv is));
       }
 
 -- ---- whether it is so
 
-module _ (before : List ℕ) (rest : Rest) (count : ℕ) (some : 26 ≤ count) (says : Says count (restIn before rest)) (now : Rest) (after : List ℕ) (f : FilledBy before rest count now after) where
+module _ (before : List ℕ) (rest : Rest) (count : ℕ) (some : 26 ≤ count) (says : Says count (rest_in before rest)) (now : Rest) (after : List ℕ) (f : FilledBy before rest count now after) where
   abbrev all : List ℕ → List ℕ
-  all beyond = restIn after now ++ beyond
+  all beyond = rest_in after now ++ beyond
 
-  as_before : (beyond : List ℕ) → all beyond ≡ restIn before rest ++ (f.more ++ beyond)
-  as_before beyond = ap (λ s. s ++ beyond) f.follows ∙ append_assoc (restIn before rest) f.more beyond
+  as_before : (beyond : List ℕ) → all beyond ≡ rest_in before rest ++ (f.more ++ beyond)
+  as_before beyond = ap (λ s. s ++ beyond) f.follows ∙ append_assoc (rest_in before rest) f.more beyond
 
-  still_digits : (beyond : List ℕ) → digitsAt (all beyond) 0 5 ≡ true
-  still_digits beyond = ap (λ s. digitsAt s 0 5) (as_before beyond) ∙ (says (f.more ++ beyond)).0
+  still_digits : (beyond : List ℕ) → digits_at (all beyond) 0 5 ≡ true
+  still_digits beyond = ap (λ s. digits_at s 0 5) (as_before beyond) ∙ (says (f.more ++ beyond)).0
 
   still_says : (beyond : List ℕ) → record_length (all beyond) ≡ count
   still_says beyond = ap record_length (as_before beyond) ∙ (says (f.more ++ beyond)).1
 
   many : (beyond : List ℕ) → length (all beyond) ≡ now.end - now.at + length beyond
-  many beyond = length-append (restIn after now) beyond ∙ ap (λ n. n + length beyond) (length-unread after now.at now.end f.read.held.1)
+  many beyond = length-append (rest_in after now) beyond ∙ ap (λ n. n + length beyond) (length-unread after now.at now.end f.read.held.1)
 
   -- the input is over before
   cut_off : now.end - now.at < count → NotAsSaid after now
@@ -119,13 +119,13 @@ module _ (before : List ℕ) (rest : Rest) (count : ℕ) (some : 26 ≤ count) (
   last_byte enough beyond =
       let at : now.at + (count - 1) ≡ now.at + count - 1 = omega arith in
       ap (λ n. get_or (all beyond) (n - 1) 0) (still_says beyond)
-      ∙ get_or-append (restIn after now) beyond 0 (count - 1) (omega (arith, length-unread after now.at now.end f.read.held.1))
+      ∙ get_or-append (rest_in after now) beyond 0 (count - 1) (omega (arith, length-unread after now.at now.end f.read.held.1))
       ∙ get_or-take (now.end - now.at) (drop now.at after) (count - 1) 0 (omega arith)
       ∙ get_or-drop now.at after (count - 1) 0
       ∙ ap (λ i. get_or after i 0) at
 
   -- LAW: it is not as long as it says
-  pub cut_other : endsMarked after now count ≡ false → NotAsSaid after now
+  pub cut_other : ends_marked_lem after now count ≡ false → NotAsSaid after now
   cut_other e = by_count (dec_lt (now.end - now.at) count)
     where
       by_count : Dec (now.end - now.at < count) → NotAsSaid after now
@@ -136,7 +136,7 @@ module _ (before : List ℕ) (rest : Rest) (count : ℕ) (some : 26 ≤ count) (
           λ beyond may. not_marked (all beyond) (λ m. eqb-false (get_or after (now.at + count - 1) 0) record_mark other (inv (last_byte enough beyond) ∙ m))
 
   -- LAW: it is as long as it says
-  pub cut_there : endsMarked after now count ≡ true → ComesBy comingIn before rest (Whole now.at (record { at = now.at + count; end = now.end; over = now.over })) after
+  pub cut_there : ends_marked_lem after now count ≡ true → ComesBy coming_in before rest (Whole now.at (record { at = now.at + count; end = now.end; over = now.over })) after
   cut_there e =
       let enough = leb-true count (now.end - now.at) (and_left (leb count (now.end - now.at)) (eqb (get_or after (now.at + count - 1) 0) record_mark) e) in
       let ended = eqb-true (get_or after (now.at + count - 1) 0) record_mark (and_right (leb count (now.end - now.at)) (eqb (get_or after (now.at + count - 1) 0) record_mark) e) in
@@ -158,6 +158,6 @@ module _ (before : List ℕ) (rest : Rest) (count : ℕ) (some : 26 ≤ count) (
                 marked = last_byte enough beyond ∙ ended;
               }) in
               let size : length bytes ≡ size_of (bytes ++ (left ++ beyond)) = long ∙ inv (ap size_of (inv whole) ∙ size-said (all beyond) said ∙ still_says beyond) in
-              (bytes, refl, ap (λ s. comingIn (s ++ beyond)) (inv f.follows) ∙ ap comingIn whole ∙ coming_is bytes (left ++ beyond) (omega arith) size);
+              (bytes, refl, ap (λ s. coming_in (s ++ beyond)) (inv f.follows) ∙ ap coming_in whole ∙ coming_is bytes (left ++ beyond) (omega arith) size);
         },
       )

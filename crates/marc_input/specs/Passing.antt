@@ -4,7 +4,7 @@ use Rattle.marc.specs.Stream.{to_mark}
 use Rattle.marc_input.specs.declared.rest.Rest.{Rest}
 use Rattle.marc_input.specs.declared.passing.Passed.{Passed}
 use Rattle.marc_input.specs.declared.passing.Passed.TheVariants.{To, Endless}
-use Rattle.marc_input.specs.Rests.{restIn, MayFollow, MoreBy}
+use Rattle.marc_input.specs.Rests.{rest_in, MayFollow, MoreBy}
 
 -- No mark stands in these bytes: the next is in what follows.
 abbrev pub NoMark : List ℕ → Type 0
@@ -18,8 +18,8 @@ pub record MarkBy (bytes : List ℕ) (from to place : ℕ) : Type 0 where
   pub unmarked : place ≡ to → NoMark bytes
 
 -- the bytes behind the next mark
-abbrev pub behindMark : List ℕ → List ℕ
-behindMark bytes = drop (to_mark bytes) bytes
+abbrev pub behind_mark : List ℕ → List ℕ
+behind_mark bytes = drop (to_mark bytes) bytes
 
 -- as many bytes as a number of 64 bits counts
 abbrev pub uncounted : ℕ
@@ -29,8 +29,8 @@ uncounted = 18446744073709551615
 pub record PassedTo (behind : List ℕ → List ℕ) (before : List ℕ) (rest now : Rest) (after : List ℕ) : Type 0 where
   pub more : List ℕ
   pub read : MoreBy before rest more now after
-  pub leaves : (beyond : List ℕ) → MayFollow now beyond → behind ((restIn before rest ++ more) ++ beyond) ≡ restIn after now ++ beyond
+  pub leaves : (beyond : List ℕ) → MayFollow now beyond → behind ((rest_in before rest ++ more) ++ beyond) ≡ rest_in after now ++ beyond
 
 abbrev pub PassedBy : (List ℕ → List ℕ) → List ℕ → Rest → Passed → List ℕ → Type 0
 PassedBy behind before rest (To now) after = PassedTo behind before rest now after
-PassedBy behind before rest Endless after = (more : List ℕ) × MayFollow rest more × (uncounted ≤ length (restIn before rest ++ more))
+PassedBy behind before rest Endless after = (more : List ℕ) × MayFollow rest more × (uncounted ≤ length (rest_in before rest ++ more))

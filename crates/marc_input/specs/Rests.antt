@@ -7,8 +7,8 @@ use Rattle.marc_input.specs.declared.rest.Rest.{Rest}
 abbrev pub Held : List ℕ → Rest → Type 0
 Held buffer rest = (rest.at ≤ rest.end) × (rest.end ≤ length buffer)
 
-abbrev pub restIn : List ℕ → Rest → List ℕ
-restIn buffer rest = unread buffer rest.at rest.end
+abbrev pub rest_in : List ℕ → Rest → List ℕ
+rest_in buffer rest = unread buffer rest.at rest.end
 
 -- These bytes may follow: none does once the input is over.
 abbrev pub MayFollow : Rest → List ℕ → Type 0
@@ -25,6 +25,6 @@ pub record MoreBy (before : List ℕ) (rest : Rest) (more : List ℕ) (now : Res
 pub record FilledBy (before : List ℕ) (rest : Rest) (wanted : ℕ) (now : Rest) (after : List ℕ) : Type 0 where
   pub more : List ℕ
   pub read : MoreBy before rest more now after
-  pub follows : restIn after now ≡ restIn before rest ++ more
+  pub follows : rest_in after now ≡ rest_in before rest ++ more
   pub enough : now.over ≡ false → wanted ≤ now.end - now.at
   pub ended : rest.over ≡ false → now.over ≡ true → now.end - now.at < wanted

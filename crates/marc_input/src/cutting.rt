@@ -1,8 +1,8 @@
 // Where a record ends.
 ghost use Rattle.std.specs.Prelude.{◌≡◌, false, ◌-◌, ◌≤◌, ◌<◌, length};
-ghost use Rattle.marc.specs.Stream.{comingIn};
-ghost use Rattle.marc_input.specs.Rests.{Held, restIn};
-ghost use Rattle.marc_input.specs.Cuts.{mostBytes, ComesBy, NextBy, Says, NotAsSaid, SaidBy, ToMarkBy, endsMarked};
+ghost use Rattle.marc.specs.Stream.{coming_in};
+ghost use Rattle.marc_input.specs.Rests.{Held, rest_in};
+ghost use Rattle.marc_input.specs.Cuts.{most_bytes, ComesBy, NextBy, Says, NotAsSaid, SaidBy, ToMarkBy, ends_marked_lem};
 
 use crate::passing::{Passed, find_mark, pass_breaks, pass_record};
 use crate::rest::{Rest, fill};
@@ -49,7 +49,7 @@ fn said_length(buffer: &[u8], rest: Rest) -> usize
 
 // Reads until a mark is there, or more bytes than a record may have, or the input is over.
 fn fill_to_mark(buffer: &mut [u8], rest: Rest) -> Rest
-    requires { Held buffer.old rest × (mostBytes < length buffer.old) }
+    requires { Held buffer.old rest × (most_bytes < length buffer.old) }
     ensures { ToMarkBy buffer.old rest result buffer.new }
 {
     let mut now = rest;
@@ -64,8 +64,8 @@ fn fill_to_mark(buffer: &mut [u8], rest: Rest) -> Rest
 
 // A record that is not as long as it says ends with the next mark, or with the input.
 fn cut_at_mark(buffer: &mut [u8], rest: Rest) -> Cut
-    requires { Held buffer.old rest × (rest.at < rest.end) × (mostBytes < length buffer.old) × NotAsSaid buffer.old rest }
-    ensures { ComesBy comingIn buffer.old rest result buffer.new }
+    requires { Held buffer.old rest × (rest.at < rest.end) × (most_bytes < length buffer.old) × NotAsSaid buffer.old rest }
+    ensures { ComesBy coming_in buffer.old rest result buffer.new }
 {
     let now = fill_to_mark(buffer, rest);
     let mark = find_mark(buffer, now.at, now.end);
@@ -96,7 +96,7 @@ fn cut_at_mark(buffer: &mut [u8], rest: Rest) -> Cut
 // Whether so many bytes are there, with a mark at their end.
 fn ends_marked(buffer: &[u8], rest: Rest, count: usize) -> bool
     requires { Held buffer.now rest × (1 ≤ count) }
-    ensures { result ≡ endsMarked buffer.now rest count }
+    ensures { result ≡ ends_marked_lem buffer.now rest count }
 {
     if rest.end - rest.at < count {
         return false;
@@ -107,9 +107,9 @@ fn ends_marked(buffer: &[u8], rest: Rest, count: usize) -> bool
 
 // A record that says that it has so many bytes, if it is so.
 fn cut_as_said(buffer: &mut [u8], rest: Rest, count: usize) -> Cut
-    requires held { Held buffer.old rest × (rest.at < rest.end) × (mostBytes < length buffer.old) }
-    requires le_count { (26 ≤ count) × (count ≤ mostBytes) × Says count (restIn buffer.old rest) }
-    ensures { ComesBy comingIn buffer.old rest result buffer.new }
+    requires held { Held buffer.old rest × (rest.at < rest.end) × (most_bytes < length buffer.old) }
+    requires le_count { (26 ≤ count) × (count ≤ most_bytes) × Says count (rest_in buffer.old rest) }
+    ensures { ComesBy coming_in buffer.old rest result buffer.new }
 {
     let now = fill(buffer, rest, count);
     if ends_marked(buffer, now, count) {
@@ -127,7 +127,7 @@ fn cut_as_said(buffer: &mut [u8], rest: Rest, count: usize) -> Cut
 
 // What comes next.
 pub fn next_record(buffer: &mut [u8], rest: Rest) -> Cut
-    requires { Held buffer.old rest × (mostBytes < length buffer.old) }
+    requires { Held buffer.old rest × (most_bytes < length buffer.old) }
     ensures { NextBy buffer.old rest result buffer.new }
 {
     match pass_breaks(buffer, rest) {

@@ -1,9 +1,9 @@
 // What is passed over: line ends in front of a record, and what is left of one that is too long to be held.
 ghost use Rattle.std.specs.Prelude.{◌≡◌, ◌≤◌, ◌<◌, length};
-ghost use Rattle.marc.specs.Stream.{isBreak, behindBreaks};
+ghost use Rattle.marc.specs.Stream.{is_break_lem, behind_breaks};
 ghost use Rattle.input.specs.Unreads.{unread};
 ghost use Rattle.marc_input.specs.Rests.{Held};
-ghost use Rattle.marc_input.specs.Passing.{PassedBy, behindMark, MarkBy};
+ghost use Rattle.marc_input.specs.Passing.{PassedBy, behind_mark, MarkBy};
 
 use crate::rest::{Rest, fill};
 use marc_record::frame::RECORD_MARK;
@@ -37,7 +37,7 @@ pub fn find_mark(buffer: &[u8], from: usize, to: usize) -> usize
 }
 
 fn is_break(byte: u8) -> bool
-    ensures { result ≡ isBreak byte }
+    ensures { result ≡ is_break_lem byte }
 {
     byte == LINE_FEED || byte == CARRIAGE_RETURN
 }
@@ -45,7 +45,7 @@ fn is_break(byte: u8) -> bool
 // Passes over line ends.
 pub fn pass_breaks(buffer: &mut [u8], rest: Rest) -> Passed
     requires { Held buffer.old rest × (1 ≤ length buffer.old) }
-    ensures { PassedBy behindBreaks buffer.old rest result buffer.new }
+    ensures { PassedBy behind_breaks buffer.old rest result buffer.new }
 {
     let mut now = rest;
     for _ in 0..u64::MAX {
@@ -65,7 +65,7 @@ pub fn pass_breaks(buffer: &mut [u8], rest: Rest) -> Passed
 // Passes over what is left of a record, up to and with the next mark.
 pub fn pass_record(buffer: &mut [u8], rest: Rest) -> Passed
     requires { Held buffer.old rest × (1 ≤ length buffer.old) }
-    ensures { PassedBy behindMark buffer.old rest result buffer.new }
+    ensures { PassedBy behind_mark buffer.old rest result buffer.new }
 {
     let mut now = rest;
     for _ in 0..u64::MAX {

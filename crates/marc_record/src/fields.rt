@@ -2,8 +2,8 @@
 ghost use Rattle.std.specs.Prelude.{◌≡◌, ◌+◌, ◌-◌, ◌≤◌, length, take, drop};
 ghost use Rattle.std.proofs.Math.Option.{none};
 ghost use Rattle.meaning.specs.Refusals.{first};
-ghost use Rattle.marc.specs.Frame.{frameRows};
-ghost use Rattle.marc.specs.Subfields.{textTo, subfield};
+ghost use Rattle.marc.specs.Frame.{frame_rows};
+ghost use Rattle.marc.specs.Subfields.{text_to, subfield};
 ghost use Rattle.marc.specs.Known.{same};
 ghost use Rattle.marc.specs.Heading.{tag100, field100};
 ghost use Rattle.marc_record.specs.Spans.{Inside, bytes_of};
@@ -39,7 +39,7 @@ fn tag_is_100(bytes: &[u8], at: usize) -> bool
 
 // The first field with the tag 100, without the mark that ends it.
 pub fn find_100(bytes: &[u8]) -> Span
-    requires { first (frameRows bytes.now) ≡ none }
+    requires { first (frame_rows bytes.now) ≡ none }
     ensures { (bytes_of bytes.now result ≡ field100 bytes.now) × Inside bytes.now result }
 {
     let base = five(bytes, BASE_ADDRESS);
@@ -59,7 +59,7 @@ pub fn find_100(bytes: &[u8]) -> Span
 // Where a text ends that begins at `from`: at the next hex 1F or the field's end.
 fn text_end(field: &[u8], from: usize) -> usize
     requires { from ≤ length field.now }
-    ensures { (take (result - from) (drop from field.now) ≡ textTo (drop from field.now)) × (from ≤ result) × (result ≤ length field.now) }
+    ensures { (take (result - from) (drop from field.now) ≡ text_to (drop from field.now)) × (from ≤ result) × (result ≤ length field.now) }
 {
     let n = field.len();
     let mut i = from;

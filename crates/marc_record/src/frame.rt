@@ -2,9 +2,9 @@
 ghost use Rattle.std.specs.Prelude.{◌≡◌, not, ◌+◌, ◌*◌, ◌≤◌, ◌<◌, length};
 ghost use Rattle.theory.specs.Least.{or_else};
 ghost use Rattle.meaning.specs.Refusals.{first};
-ghost use Rattle.marc.specs.Frame.{baseAddress, entry_at, fieldMark, badBase, unmarked, frameRows};
+ghost use Rattle.marc.specs.Frame.{base_address, entry_at, field_mark, bad_base, unmarked, frame_rows};
 ghost use Rattle.table.specs.Places.{place_in};
-ghost use Rattle.marc_record.specs.Frames.{Directory, EntryTells, EntriesTell, fieldRows, found_at};
+ghost use Rattle.marc_record.specs.Frames.{Directory, EntryTells, EntriesTell, field_rows, found_at};
 ghost use Rattle.marc_record.specs.declared.frame.Entries.TheVariants.{Fine};
 
 use crate::number::{digits, five, four};
@@ -52,7 +52,7 @@ enum Entries {
 
 // One entry: its numbers, and where its field ends.
 fn read_entry(bytes: &[u8], base: usize, e: usize) -> Entry
-    requires { (base ≡ baseAddress bytes.now) × (base ≤ 99999) × (entry_at e + 12 ≤ length bytes.now) }
+    requires { (base ≡ base_address bytes.now) × (base ≤ 99999) × (entry_at e + 12 ≤ length bytes.now) }
     ensures { EntryTells bytes.now e result }
 {
     let at = LEADER + ENTRY * e;
@@ -76,7 +76,7 @@ fn read_entry(bytes: &[u8], base: usize, e: usize) -> Entry
 // The first place without a field's mark: one that was found before, or else this one.
 fn first_unmarked(found: Place, bytes: &[u8], last: usize) -> Place
     requires { last < length bytes.now }
-    ensures { place_in result ≡ or_else (place_in found) (unmarked bytes.now last fieldMark) }
+    ensures { place_in result ≡ or_else (place_in found) (unmarked bytes.now last field_mark) }
 {
     match found {
         Place::At(place) => Place::At(place),
@@ -113,7 +113,7 @@ fn read_entries(bytes: &[u8], base: usize, entries: usize) -> Entries
 // Whether the base address is in order.
 fn fine_base(bytes: &[u8]) -> bool
     requires { 26 ≤ length bytes.now }
-    ensures { badBase bytes.now ≡ not result }
+    ensures { bad_base bytes.now ≡ not result }
 {
     if !digits(bytes, BASE_ADDRESS, 5) {
         return false;
@@ -130,8 +130,8 @@ fn fine_base(bytes: &[u8]) -> bool
 
 // The first mark that is missing: the directory's, a field's, the record's.
 fn check_marks(bytes: &[u8], base: usize, unmarked: Place) -> Place
-    requires { (base ≡ baseAddress bytes.now) × (0 < base) × (base < length bytes.now) × EntriesTell bytes.now (Fine unmarked) }
-    ensures { found_at result ≡ first (fieldRows bytes.now) }
+    requires { (base ≡ base_address bytes.now) × (0 < base) × (base < length bytes.now) × EntriesTell bytes.now (Fine unmarked) }
+    ensures { found_at result ≡ first (field_rows bytes.now) }
 {
     if bytes[base - 1] != FIELD_MARK {
         return Place::At(base - 1);
@@ -152,7 +152,7 @@ fn check_marks(bytes: &[u8], base: usize, unmarked: Place) -> Place
 // The first fault of the entries or the marks.
 fn check_fields(bytes: &[u8], base: usize, entries: usize) -> Place
     requires { Directory bytes.now base entries }
-    ensures { found_at result ≡ first (fieldRows bytes.now) }
+    ensures { found_at result ≡ first (field_rows bytes.now) }
 {
     match read_entries(bytes, base, entries) {
         Entries::Bad(place) => Place::At(place),
@@ -162,7 +162,7 @@ fn check_fields(bytes: &[u8], base: usize, entries: usize) -> Place
 
 // The first fault of the frame.
 pub fn check_frame(bytes: &[u8]) -> Place
-    ensures { found_at result ≡ first (frameRows bytes.now) }
+    ensures { found_at result ≡ first (frame_rows bytes.now) }
 {
     let n = bytes.len();
     if n < SHORTEST {

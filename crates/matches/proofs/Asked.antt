@@ -11,9 +11,9 @@ use lib.Dec.{ltb, leb}
 use borrow.Author.Tests.{lt-ltb, le-ltb, lt-leb, le-leb}
 use Rattle.theory.specs.Table.{Table}
 use Rattle.theory.specs.Read.{whole, faulty, reading}
-use Rattle.meaning.specs.File.{tableIn}
-use Rattle.meaning.specs.Refusals.{Refusal as Given, refusal, row, first, row5, row8, tableRows, SoundFile}
-use Rattle.meaning.specs.Calls.{refused_as, inputRows, matchCall}
+use Rattle.meaning.specs.File.{table_in}
+use Rattle.meaning.specs.Refusals.{Refusal as Given, refusal, row, first, row5, row8, table_rows, SoundFile}
+use Rattle.meaning.specs.Calls.{refused_as, input_rows, match_call}
 use Rattle.meaning.specs.Demands.{Accepted}
 use Rattle.meaning.proofs.First.{first-append}
 use Rattle.meaning.proofs.Compose.{by_input}
@@ -26,7 +26,7 @@ use Rattle.terms.proofs.Readings.{row6_is, row7_is}
 use Rattle.refusal.specs.Outcomes.{result_of}
 use Rattle.refusal.specs.declared.Outcome.{Outcome}
 use Rattle.refusal.specs.declared.Outcome.TheVariants.{Refused as NoMatch}
-use Rattle.matches.specs.Matching.{MatchHeading, askedRows}
+use Rattle.matches.specs.Matching.{MatchHeading, asked_rows}
 use Rattle.sound.proofs.Checks.{stays_refused}
 
 -- LAW: below is not at least
@@ -39,54 +39,54 @@ below_not a b = go (dec_lt a b)
 
 module _ (table pattern heading : List ℕ) (cut : ℕ) (spans sets : List ℕ) where
   abbrev T : Table
-  T = tableIn table
+  T = table_in table
 
   -- ---- over a sound table
 
   -- LAW: the cut refuses
-  pub asked_cut : row5 cut ≡ row 5 (just 0) → just (refusal 5 0) ≡ first (askedRows table pattern heading cut spans sets)
-  unfolding askedRows
+  pub asked_cut : row5 cut ≡ row 5 (just 0) → just (refusal 5 0) ≡ first (asked_rows table pattern heading cut spans sets)
+  unfolding asked_rows
   asked_cut e = rw e
 
   module _ (c : row5 cut ≡ row 5 none) where
     -- LAW: .. or else the pattern does
-    pub asked_pattern : (node : ℕ) → reading T true pattern ≡ faulty node → just (refusal 6 node) ≡ first (askedRows table pattern heading cut spans sets)
-    unfolding askedRows
+    pub asked_pattern : (node : ℕ) → reading T true pattern ≡ faulty node → just (refusal 6 node) ≡ first (asked_rows table pattern heading cut spans sets)
+    unfolding asked_rows
     asked_pattern node e = rw (c, row6_is T true pattern (faulty node) e)
 
     module _ (p : reading T true pattern ≡ whole) where
       -- LAW: .. or else the heading
-      pub asked_heading : (node : ℕ) → reading T false heading ≡ faulty node → just (refusal 7 node) ≡ first (askedRows table pattern heading cut spans sets)
-      unfolding askedRows
+      pub asked_heading : (node : ℕ) → reading T false heading ≡ faulty node → just (refusal 7 node) ≡ first (asked_rows table pattern heading cut spans sets)
+      unfolding asked_rows
       asked_heading node e = rw (c, row6_is T true pattern whole p, row7_is T heading (faulty node) e)
 
       -- LAW: .. or else the room decides
       pub asked_room : reading T false heading ≡ whole → (o : Option ℕ) → row8 heading spans sets ≡ row 8 o
-          → first (row 8 o ∷ []) ≡ first (askedRows table pattern heading cut spans sets)
-      unfolding askedRows
+          → first (row 8 o ∷ []) ≡ first (asked_rows table pattern heading cut spans sets)
+      unfolding asked_rows
       asked_room h o e = rw (c, row6_is T true pattern whole p, row7_is T heading whole h, e)
 
   -- ---- over any table
 
   -- LAW: the table refuses
-  pub input_table : (g : Given) → first (tableRows table) ≡ just g → first (inputRows table pattern heading cut spans sets) ≡ just g
-  unfolding inputRows askedRows
-  input_table g e = stays_refused (tableRows table) (askedRows table pattern heading cut spans sets) g e
+  pub input_table : (g : Given) → first (table_rows table) ≡ just g → first (input_rows table pattern heading cut spans sets) ≡ just g
+  unfolding input_rows asked_rows
+  input_table g e = stays_refused (table_rows table) (asked_rows table pattern heading cut spans sets) g e
 
   -- LAW: .. or else what is asked decides
-  pub input_asked : SoundFile table → (o : Option Given) → o ≡ first (askedRows table pattern heading cut spans sets)
-      → o ≡ first (inputRows table pattern heading cut spans sets)
-  unfolding inputRows askedRows
-  input_asked s o e = e ∙ inv (first-append (tableRows table) (askedRows table pattern heading cut spans sets) s)
+  pub input_asked : SoundFile table → (o : Option Given) → o ≡ first (asked_rows table pattern heading cut spans sets)
+      → o ≡ first (input_rows table pattern heading cut spans sets)
+  unfolding input_rows asked_rows
+  input_asked s o e = e ∙ inv (first-append (table_rows table) (asked_rows table pattern heading cut spans sets) s)
 
   -- ---- the call
 
   -- LAW: the promise is what the meaning has for the match
-  pub promised : (r : Outcome) (spans' sets' : List ℕ) → result_of r spans' sets' ≡ matchCall table pattern heading cut spans sets
+  pub promised : (r : Outcome) (spans' sets' : List ℕ) → result_of r spans' sets' ≡ match_call table pattern heading cut spans sets
       → MatchHeading table pattern heading cut spans sets r spans' sets'
   promised r spans' sets' e = record { answers = ap (λ m. m.answer) e; spans_later = ap (λ m. m.spans) e; sets_later = ap (λ m. m.sets) e }
 
-  module _ (r : Checked) (e : found r ≡ first (inputRows table pattern heading cut spans sets)) where
+  module _ (r : Checked) (e : found r ≡ first (input_rows table pattern heading cut spans sets)) where
     -- LAW: what passes the tests is searched
     pub accepted_by : r ≡ Sound → Accepted table pattern heading cut spans sets
     accepted_by q = inv e ∙ ap found q
@@ -95,6 +95,6 @@ module _ (table pattern heading : List ℕ) (cut : ℕ) (spans sets : List ℕ) 
     pub refused_promise : (why : Refusal) → r ≡ Refused why → MatchHeading table pattern heading cut spans sets (NoMatch why) spans sets
     refused_promise why q = promised (NoMatch why) spans sets (inv (go (told why) (inv e ∙ ap found q)))
       where
-        go : (g : Given) → first (inputRows table pattern heading cut spans sets) ≡ just g
-            → matchCall table pattern heading cut spans sets ≡ record { answer = refused_as g; spans = spans; sets = sets }
+        go : (g : Given) → first (input_rows table pattern heading cut spans sets) ≡ just g
+            → match_call table pattern heading cut spans sets ≡ record { answer = refused_as g; spans = spans; sets = sets }
         go (refusal n place) e = by_input table pattern heading cut spans sets n place e

@@ -3,7 +3,7 @@
 use mathlib.Core.Path.{◌≡◌, sym, ap, ap₂, ◌∙◌, subst}
 use mathlib.Core.List.{List}
 use Prim.Native.Nat.{ℕ, ◌≤◌}
-use Rattle.meaning.specs.Calls.{Degrees, matchCall}
+use Rattle.meaning.specs.Calls.{Degrees, match_call}
 use Rattle.meaning.specs.Demands.{Accepted, Demand2, Demand3}
 use Rattle.meaning.proofs.Matched.{demand2}
 use Rattle.meaning.proofs.Cuts.{demand3}
@@ -29,7 +29,7 @@ module _ (table pattern heading : List ℕ) (cut : ℕ) (spans sets : List ℕ) 
       (one_said r r' (p.answers ∙ sym q.answers), p.spans_later ∙ sym q.spans_later, p.sets_later ∙ sym q.sets_later)
 
   -- what the promise allows is the meaning's match
-  match_is : {r : Outcome} {s t : List ℕ} → MatchHeading table pattern heading cut spans sets r s t → matchCall table pattern heading cut spans sets ≡ result_of r s t
+  match_is : {r : Outcome} {s t : List ℕ} → MatchHeading table pattern heading cut spans sets r s t → match_call table pattern heading cut spans sets ≡ result_of r s t
   match_is p = same-matched (sym p.answers) (sym p.spans_later) (sym p.sets_later)
 
   -- THEOREM: it meets demand 2
@@ -44,7 +44,7 @@ module _ (table pattern heading : List ℕ) (cut₁ : ℕ) (spans₁ sets₁ : L
       → MatchHeading table pattern heading cut₁ spans₁ sets₁ r₁ s₁ t₁ → MatchHeading table pattern heading cut₂ spans₂ sets₂ r₂ s₂ t₂
       → Demand3 table pattern heading cut₁ (result_of r₁ s₁ t₁) cut₂ (result_of r₂ s₂ t₂)
   meets_three up a₁ a₂ r₁ r₂ s₁ s₂ t₁ t₂ p₁ p₂ =
-      let first = matchCall table pattern heading cut₁ spans₁ sets₁ in
+      let first = match_call table pattern heading cut₁ spans₁ sets₁ in
       let e₁ = match_is table pattern heading cut₁ spans₁ sets₁ p₁ in
       let e₂ = match_is table pattern heading cut₂ spans₂ sets₂ p₂ in
       subst (λ m. Demand3 table pattern heading cut₁ m cut₂ (result_of r₂ s₂ t₂)) e₁

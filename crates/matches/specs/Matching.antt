@@ -1,6 +1,6 @@
 -- The match: what it promises for everything that can be lent to it.
 use Rattle.std.specs.Prelude.{◌≡◌, List, [], ◌∷◌, true, ℕ}
-use Rattle.meaning.specs.File.{tableIn}
+use Rattle.meaning.specs.File.{table_in}
 use Rattle.meaning.specs.Refusals.{Row, row5, row6, row7, row8}
 use Rattle.meaning.specs.Calls.{matched, later_spans, later_sets}
 use Rattle.refusal.specs.Outcomes.{said_match}
@@ -15,6 +15,6 @@ pub record MatchHeading (table pattern heading : List ℕ) (cut : ℕ) (spans se
 
 -- ---- What is tested before a search, once the table is sound: 5 to 8.
 
-unfoldable pub askedRows : List ℕ → List ℕ → List ℕ → ℕ → List ℕ → List ℕ → List Row
-askedRows table pattern heading cut spans sets =
-    row5 cut ∷ row6 (tableIn table) true pattern ∷ row7 (tableIn table) heading ∷ row8 heading spans sets ∷ []
+unfoldable pub asked_rows : List ℕ → List ℕ → List ℕ → ℕ → List ℕ → List ℕ → List Row
+asked_rows table pattern heading cut spans sets =
+    row5 cut ∷ row6 (table_in table) true pattern ∷ row7 (table_in table) heading ∷ row8 heading spans sets ∷ []

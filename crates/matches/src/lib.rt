@@ -1,14 +1,12 @@
 // The match. It takes any bytes, any lists and any cut; its answer, and what it leaves in both buffers, are fixed
 // by its promise in specs/.
-#![tactic(auto)]
-
 mod memory;
 
 ghost use Rattle.std.specs.Prelude.{◌≡◌, not, ◌≤◌, length};
 ghost use Rattle.meaning.specs.Refusals.{row, at0, first, row5, row8, SoundFile};
-ghost use Rattle.meaning.specs.Calls.{inputRows};
+ghost use Rattle.meaning.specs.Calls.{input_rows};
 ghost use Rattle.sound.specs.Found.{found};
-ghost use Rattle.matches.specs.Matching.{MatchHeading, askedRows};
+ghost use Rattle.matches.specs.Matching.{MatchHeading, asked_rows};
 
 use crate::memory::search_sound;
 use refusal::{Outcome, Refusal};
@@ -42,7 +40,7 @@ fn check_input(
     spans: &[u16],
     sets: &[u64],
 ) -> Checked
-    ensures { found result ≡ first (inputRows table.now pattern.now heading.now cut spans.now sets.now) }
+    ensures { found result ≡ first (input_rows table.now pattern.now heading.now cut spans.now sets.now) }
 {
     match check(table) {
         Checked::Refused(why) => Checked::Refused(why),
@@ -60,7 +58,7 @@ fn check_asked(
     sets: &[u64],
 ) -> Checked
     requires { SoundFile table.now }
-    ensures { found result ≡ first (askedRows table.now pattern.now heading.now cut spans.now sets.now) }
+    ensures { found result ≡ first (asked_rows table.now pattern.now heading.now cut spans.now sets.now) }
 {
     if !is_cut(cut) {
         return Checked::Refused(Refusal::Cut);

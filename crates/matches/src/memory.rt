@@ -1,11 +1,11 @@
 // The match in memory of its own size, for input that is accepted: near sets and the index of the pairs by the table's size, and notes by the pattern's
 // length. Neither grows with the other, so that a small pattern does not pay for what only a large one needs, nor a small table for a large one's.
 ghost use Rattle.std.specs.Prelude.{◌≡◌, true, ◌≤◌, length};
-ghost use Rattle.meaning.specs.File.{pairCount, tableIn};
-ghost use Rattle.meaning.specs.Calls.{matchCall};
+ghost use Rattle.meaning.specs.File.{pair_count_lem, table_in};
+ghost use Rattle.meaning.specs.Calls.{match_call};
 ghost use Rattle.meaning.specs.Demands.{Accepted};
 ghost use Rattle.near.specs.Near.{Fresh};
-ghost use Rattle.wide.specs.Index.{indexRoom};
+ghost use Rattle.wide.specs.Index.{index_room};
 ghost use Rattle.refusal.specs.Outcomes.{result_of};
 
 use matching::search::search;
@@ -77,8 +77,8 @@ fn with_few_notes(
 ) -> Outcome
     requires pattern_len_bound { length pattern.now ≤ 64 }
     requires accepted { Accepted table.now pattern.now heading.now cut spans.old sets.old }
-    requires fresh { Fresh (tableIn table.now) near.old × (indexRoom table.now ≤ length index.old) }
-    ensures { result_of result spans.new sets.new ≡ matchCall table.now pattern.now heading.now cut spans.old sets.old }
+    requires fresh { Fresh (table_in table.now) near.old × (index_room table.now ≤ length index.old) }
+    ensures { result_of result spans.new sets.new ≡ match_call table.now pattern.now heading.now cut spans.old sets.old }
 {
     let mut notes = [UNWRITTEN; FEW_NOTES];
     let mut own = [UNWRITTEN; FEW_NOTES];
@@ -99,8 +99,8 @@ fn with_all_notes(
     sets: &mut [u64],
 ) -> Outcome
     requires accepted { Accepted table.now pattern.now heading.now cut spans.old sets.old }
-    requires fresh { Fresh (tableIn table.now) near.old × (indexRoom table.now ≤ length index.old) }
-    ensures { result_of result spans.new sets.new ≡ matchCall table.now pattern.now heading.now cut spans.old sets.old }
+    requires fresh { Fresh (table_in table.now) near.old × (index_room table.now ≤ length index.old) }
+    ensures { result_of result spans.new sets.new ≡ match_call table.now pattern.now heading.now cut spans.old sets.old }
 {
     let mut notes = [UNWRITTEN; ALL_NOTES];
     let mut own = [UNWRITTEN; ALL_NOTES];
@@ -121,8 +121,8 @@ fn search_in(
     sets: &mut [u64],
 ) -> Outcome
     requires accepted { Accepted table.now pattern.now heading.now cut spans.old sets.old }
-    requires fresh { Fresh (tableIn table.now) near.old × (indexRoom table.now ≤ length index.old) }
-    ensures { result_of result spans.new sets.new ≡ matchCall table.now pattern.now heading.now cut spans.old sets.old }
+    requires fresh { Fresh (table_in table.now) near.old × (index_room table.now ≤ length index.old) }
+    ensures { result_of result spans.new sets.new ≡ match_call table.now pattern.now heading.now cut spans.old sets.old }
 {
     if pattern.len() <= FEW_NODES {
         with_few_notes(table, pattern, heading, cut, near, index, spans, sets)
@@ -140,9 +140,9 @@ fn over_small(
     spans: &mut [u16],
     sets: &mut [u64],
 ) -> Outcome
-    requires table_bound { ((tableIn table.now).size ≤ 16) × (pairCount table.now ≤ 128) }
+    requires table_bound { ((table_in table.now).size ≤ 16) × (pair_count_lem table.now ≤ 128) }
     requires accepted { Accepted table.now pattern.now heading.now cut spans.old sets.old }
-    ensures { result_of result spans.new sets.new ≡ matchCall table.now pattern.now heading.now cut spans.old sets.old }
+    ensures { result_of result spans.new sets.new ≡ match_call table.now pattern.now heading.now cut spans.old sets.old }
 {
     let mut near = [NOT_GATHERED; FEW_NEAR];
     let mut index = [UNWRITTEN; FEW_INDEX];
@@ -160,9 +160,9 @@ fn over_modest(
     spans: &mut [u16],
     sets: &mut [u64],
 ) -> Outcome
-    requires table_bound { ((tableIn table.now).size ≤ 64) × (pairCount table.now ≤ 512) }
+    requires table_bound { ((table_in table.now).size ≤ 64) × (pair_count_lem table.now ≤ 512) }
     requires accepted { Accepted table.now pattern.now heading.now cut spans.old sets.old }
-    ensures { result_of result spans.new sets.new ≡ matchCall table.now pattern.now heading.now cut spans.old sets.old }
+    ensures { result_of result spans.new sets.new ≡ match_call table.now pattern.now heading.now cut spans.old sets.old }
 {
     let mut near = [NOT_GATHERED; SOME_NEAR];
     let mut index = [UNWRITTEN; SOME_INDEX];
@@ -180,9 +180,9 @@ fn over_middling(
     spans: &mut [u16],
     sets: &mut [u64],
 ) -> Outcome
-    requires table_bound { (tableIn table.now).size ≤ 256 }
+    requires table_bound { (table_in table.now).size ≤ 256 }
     requires accepted { Accepted table.now pattern.now heading.now cut spans.old sets.old }
-    ensures { result_of result spans.new sets.new ≡ matchCall table.now pattern.now heading.now cut spans.old sets.old }
+    ensures { result_of result spans.new sets.new ≡ match_call table.now pattern.now heading.now cut spans.old sets.old }
 {
     let mut near = [NOT_GATHERED; MORE_NEAR];
     let mut index = [UNWRITTEN; MORE_INDEX];
@@ -201,7 +201,7 @@ fn over_any(
     sets: &mut [u64],
 ) -> Outcome
     requires { Accepted table.now pattern.now heading.now cut spans.old sets.old }
-    ensures { result_of result spans.new sets.new ≡ matchCall table.now pattern.now heading.now cut spans.old sets.old }
+    ensures { result_of result spans.new sets.new ≡ match_call table.now pattern.now heading.now cut spans.old sets.old }
 {
     let mut near = [NOT_GATHERED; ALL_NEAR];
     let mut index = [UNWRITTEN; ALL_INDEX];
@@ -230,7 +230,7 @@ pub fn search_sound(
     sets: &mut [u64],
 ) -> Outcome
     requires { Accepted table.now pattern.now heading.now cut spans.old sets.old }
-    ensures { result_of result spans.new sets.new ≡ matchCall table.now pattern.now heading.now cut spans.old sets.old }
+    ensures { result_of result spans.new sets.new ≡ match_call table.now pattern.now heading.now cut spans.old sets.old }
 {
     let counts = counts_of(table);
     if has_at_most(counts, FEW_SYMBOLS, FEW_PAIRS) {

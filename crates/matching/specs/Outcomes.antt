@@ -1,6 +1,6 @@
 -- What the search answers and leaves, in the meaning's words.
 use Rattle.std.specs.Prelude.{List, ◌++◌, cond, ℕ, ◌-◌, ◌*◌, ltb, length, take}
-use Rattle.meaning.specs.Limits.{setWords, variableCount}
+use Rattle.meaning.specs.Limits.{set_words_lem, variable_count}
 use Rattle.meaning.specs.Calls.{gives, degrees, Matched, zeros}
 use Rattle.refusal.specs.Told.{refused_by}
 use Rattle.refusal.specs.declared.Refusal.{Refusal}
@@ -17,9 +17,9 @@ kept found spans sets =
     record {
       answer = gives (degrees found.lowest found.highest);
       spans = spans;
-      sets = take (setWords * found.packed) sets ++ zeros (length sets - setWords * found.packed);
+      sets = take (set_words_lem * found.packed) sets ++ zeros (length sets - set_words_lem * found.packed);
     }
 
 -- What comes of packed variables.
-unfoldable pub outcomeOf : Search → List ℕ → List ℕ → Matched
-outcomeOf found spans sets = cond (ltb found.lacking variableCount) (emptied (NoForm found.lacking) spans sets) (kept found spans sets)
+unfoldable pub outcome_of : Search → List ℕ → List ℕ → Matched
+outcome_of found spans sets = cond (ltb found.lacking variable_count) (emptied (NoForm found.lacking) spans sets) (kept found spans sets)

@@ -1,6 +1,6 @@
 // Near sets, for a pattern that has variables.
 ghost use Rattle.std.specs.Prelude.{◌≡◌, false, ℕ, ◌<◌, ◌≤◌, length, get_or};
-ghost use Rattle.meaning.specs.File.{tableIn};
+ghost use Rattle.meaning.specs.File.{table_in};
 ghost use Rattle.meaning.specs.Refusals.{SoundFile};
 ghost use Rattle.near.specs.Near.{Fresh};
 ghost use Rattle.packing.specs.Pack.{NearWhere};
@@ -22,8 +22,8 @@ fn has_variable(pattern: &[u16]) -> bool
 
 // Gathers the near sets of the heading's symbols, unless no variable asks for one.
 pub fn gather_near(table: &[u8], pattern: &[u16], heading: &[u16], cut: u16, near: &mut [u64])
-    requires sound_file { SoundFile table.now × (0 < cut) × (cut ≤ 1000) × Fresh (tableIn table.now) near.old }
-    requires by_index { (i : ℕ) → i < length heading.now → get_or heading.now i 0 < (tableIn table.now).size }
+    requires sound_file { SoundFile table.now × (0 < cut) × (cut ≤ 1000) × Fresh (table_in table.now) near.old }
+    requires by_index { (i : ℕ) → i < length heading.now → get_or heading.now i 0 < (table_in table.now).size }
     ensures { NearWhere table.now pattern.now heading.now cut near.new }
 {
     if has_variable(pattern) {

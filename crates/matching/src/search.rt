@@ -1,13 +1,13 @@
 // The match of sound lists at a sound cut, in buffers that have room.
 ghost use Rattle.std.specs.Prelude.{◌≡◌, ◌*◌, ◌≤◌, length};
-ghost use Rattle.meaning.specs.Limits.{setWords};
-ghost use Rattle.meaning.specs.File.{tableIn};
-ghost use Rattle.meaning.specs.Calls.{matchCall};
+ghost use Rattle.meaning.specs.Limits.{set_words_lem};
+ghost use Rattle.meaning.specs.File.{table_in};
+ghost use Rattle.meaning.specs.Calls.{match_call};
 ghost use Rattle.meaning.specs.Demands.{Accepted};
 ghost use Rattle.near.specs.Near.{Fresh};
-ghost use Rattle.wide.specs.Index.{indexRoom};
+ghost use Rattle.wide.specs.Index.{index_room};
 ghost use Rattle.refusal.specs.Outcomes.{result_of};
-ghost use Rattle.matching.specs.Outcomes.{emptied, outcomeOf};
+ghost use Rattle.matching.specs.Outcomes.{emptied, outcome_of};
 
 use crate::clear::{clear_numbers, clear_words};
 use crate::gathering::gather_near;
@@ -28,8 +28,8 @@ fn refuse(why: Refusal, spans: &mut [u16], sets: &mut [u64]) -> Outcome
 
 // What comes of variables that are packed: a match, if each has a form.
 fn settle(found: Search, spans: &mut [u16], sets: &mut [u64]) -> Outcome
-    requires { setWords * found.packed ≤ length sets.old }
-    ensures { result_of result spans.new sets.new ≡ outcomeOf found spans.old sets.old }
+    requires { set_words_lem * found.packed ≤ length sets.old }
+    ensures { result_of result spans.new sets.new ≡ outcome_of found spans.old sets.old }
 {
     if found.lacking < 32 {
         return refuse(Refusal::NoForm(found.lacking), spans, sets);
@@ -53,9 +53,9 @@ pub fn search(
     sets: &mut [u64],
 ) -> Outcome
     requires accepted { Accepted table.now pattern.now heading.now cut spans.old sets.old }
-    requires fresh { Fresh (tableIn table.now) near.old × (indexRoom table.now ≤ length index.old) }
+    requires fresh { Fresh (table_in table.now) near.old × (index_room table.now ≤ length index.old) }
     requires pattern_in_bounds { (2 * length pattern.now ≤ length notes.old) × (2 * length pattern.now ≤ length own.old) }
-    ensures { result_of result spans.new sets.new ≡ matchCall table.now pattern.now heading.now cut spans.old sets.old }
+    ensures { result_of result spans.new sets.new ≡ match_call table.now pattern.now heading.now cut spans.old sets.old }
 {
     open_index(table, index);
     match face(table, pattern, heading, cut, index, notes) {

@@ -14,12 +14,12 @@ use Rattle.theory.specs.Least.{All}
 use Rattle.theory.specs.Faces.{Face, facing}
 use Rattle.theory.specs.Match.{in_set}
 use Rattle.theory.proofs.Lemmas.{all_append}
-use Rattle.meaning.specs.Limits.{word_bits, setWords}
-use Rattle.meaning.specs.File.{tableIn}
+use Rattle.meaning.specs.Limits.{word_bits, set_words_lem}
+use Rattle.meaning.specs.File.{table_in}
 use Rattle.meaning.specs.Refusals.{first, row8-output}
 use Rattle.meaning.specs.Packing.{through, order, count_of, bits, words_from, sets_of, all_words_by, all_words_lem, packed_count, packed_sets}
-use Rattle.meaning.specs.Calls.{gives, Degrees, zeros, facesIn, matched, later_sets}
-use Rattle.meaning.specs.Saved.{savedWords, saved_room, widenedSet, widened, row8-words, widen_rows, later_words, left_then}
+use Rattle.meaning.specs.Calls.{gives, Degrees, zeros, faces_in, matched, later_sets}
+use Rattle.meaning.specs.Saved.{saved_words, saved_room, widened_set, widened, row8-words, widen_rows, later_words, left_then}
 use Rattle.meaning.proofs.Bits.{length-words_by, length-words}
 use Rattle.meaning.proofs.Packing.{one}
 use Rattle.meaning.proofs.Matched.{sets_are}
@@ -52,8 +52,8 @@ module _ (set : ℕ → Bool) where
       ∙ ap (λ l. bits set k word_bits ∷ l) (words_split (k + word_bits) m n ∙ ap (λ i. words_from set (k + word_bits) m ++ words_from set i n) (omega arith))
 
   -- LAW: a set's words today are those it had, and zeros
-  today : Small set → words_from set 0 setWords ≡ words_from set 0 savedWords ++ zeros (setWords - savedWords)
-  today m = words_split 0 savedWords (setWords - savedWords) ∙ ap (λ l. words_from set 0 savedWords ++ l) (no_words m saved_room (setWords - savedWords) (omega arith))
+  today : Small set → words_from set 0 set_words_lem ≡ words_from set 0 saved_words ++ zeros (set_words_lem - saved_words)
+  today m = words_split 0 saved_words (set_words_lem - saved_words) ∙ ap (λ l. words_from set 0 saved_words ++ l) (no_words m saved_room (set_words_lem - saved_words) (omega arith))
 
 -- ---- set by set
 
@@ -62,42 +62,42 @@ through-first zero f = inv (append-nil (f 0))
 through-first (suc n) f = ap (λ l. l ++ f (suc n)) (through-first n f) ∙ append_assoc (f 0) (through n (λ k. f (suc k))) (f (suc n))
 
 -- LAW: the first set, widened, and the others
-widened-first : (set rest : List ℕ) → length set ≡ savedWords → widened (set ++ rest) ≡ (set ++ zeros (setWords - savedWords)) ++ widened rest
+widened-first : (set rest : List ℕ) → length set ≡ saved_words → widened (set ++ rest) ≡ (set ++ zeros (set_words_lem - saved_words)) ++ widened rest
 unfolding widened
 widened-first set rest l =
-    ap (λ n. through n (widenedSet (set ++ rest))) count
-    ∙ through-first (length rest / savedWords) (widenedSet (set ++ rest))
-    ∙ ap₂ ◌++◌ (ap (λ ws. ws ++ zeros (setWords - savedWords)) (take_at set rest savedWords l)) (λ i. through (length rest / savedWords) (λ k. others k i))
+    ap (λ n. through n (widened_set (set ++ rest))) count
+    ∙ through-first (length rest / saved_words) (widened_set (set ++ rest))
+    ∙ ap₂ ◌++◌ (ap (λ ws. ws ++ zeros (set_words_lem - saved_words)) (take_at set rest saved_words l)) (λ i. through (length rest / saved_words) (λ k. others k i))
   where
-    count : length (set ++ rest) / savedWords ≡ suc (length rest / savedWords)
+    count : length (set ++ rest) / saved_words ≡ suc (length rest / saved_words)
     count = omega (arith, length-append set rest)
 
-    others : (k : ℕ) → widenedSet (set ++ rest) (suc k) ≡ widenedSet rest k
+    others : (k : ℕ) → widened_set (set ++ rest) (suc k) ≡ widened_set rest k
     others k =
-        let i : savedWords * suc k ≡ length set + savedWords * k = omega arith in
-        ap (λ i. take savedWords (drop i (set ++ rest)) ++ zeros (setWords - savedWords)) i
-        ∙ ap (λ ws. take savedWords ws ++ zeros (setWords - savedWords)) (drop-append-add set rest (savedWords * k))
+        let i : saved_words * suc k ≡ length set + saved_words * k = omega arith in
+        ap (λ i. take saved_words (drop i (set ++ rest)) ++ zeros (set_words_lem - saved_words)) i
+        ∙ ap (λ ws. take saved_words ws ++ zeros (set_words_lem - saved_words)) (drop-append-add set rest (saved_words * k))
 
-widened-zeros : (n : ℕ) → widened (zeros (savedWords * n)) ≡ zeros (setWords * n)
+widened-zeros : (n : ℕ) → widened (zeros (saved_words * n)) ≡ zeros (set_words_lem * n)
 unfolding widened
 widened-zeros zero = refl
 widened-zeros (suc n) =
-    let i : savedWords * suc n ≡ savedWords + savedWords * n = omega arith in
-    let j : setWords + setWords * n ≡ setWords * suc n = omega arith in
+    let i : saved_words * suc n ≡ saved_words + saved_words * n = omega arith in
+    let j : set_words_lem + set_words_lem * n ≡ set_words_lem * suc n = omega arith in
     ap (λ i. widened (zeros i)) i
-    ∙ ap widened (inv (replicate-append-replicate savedWords (savedWords * n) 0))
-    ∙ widened-first (zeros savedWords) (zeros (savedWords * n)) refl
-    ∙ ap (λ l. zeros setWords ++ l) (widened-zeros n)
-    ∙ replicate-append-replicate setWords (setWords * n) 0
+    ∙ ap widened (inv (replicate-append-replicate saved_words (saved_words * n) 0))
+    ∙ widened-first (zeros saved_words) (zeros (saved_words * n)) refl
+    ∙ ap (λ l. zeros set_words_lem ++ l) (widened-zeros n)
+    ∙ replicate-append-replicate set_words_lem (set_words_lem * n) 0
     ∙ ap zeros j
 
-widened_sets : (sets : List (ℕ → Bool)) → All Small sets → (n : ℕ) → widened (all_words_by savedWords sets ++ zeros (savedWords * n)) ≡ all_words_lem sets ++ zeros (setWords * n)
+widened_sets : (sets : List (ℕ → Bool)) → All Small sets → (n : ℕ) → widened (all_words_by saved_words sets ++ zeros (saved_words * n)) ≡ all_words_lem sets ++ zeros (set_words_lem * n)
 widened_sets [] a n = widened-zeros n
 widened_sets (set ∷ sets) a n =
-    ap widened (append_assoc (words_from set 0 savedWords) (all_words_by savedWords sets) (zeros (savedWords * n)))
-    ∙ widened-first (words_from set 0 savedWords) (all_words_by savedWords sets ++ zeros (savedWords * n)) refl
+    ap widened (append_assoc (words_from set 0 saved_words) (all_words_by saved_words sets) (zeros (saved_words * n)))
+    ∙ widened-first (words_from set 0 saved_words) (all_words_by saved_words sets ++ zeros (saved_words * n)) refl
     ∙ ap₂ ◌++◌ (inv (today set a.0)) (widened_sets sets a.1 n)
-    ∙ inv (append_assoc (words_from set 0 setWords) (all_words_lem sets) (zeros (setWords * n)))
+    ∙ inv (append_assoc (words_from set 0 set_words_lem) (all_words_lem sets) (zeros (set_words_lem * n)))
 
 -- ---- the sets of a match
 
@@ -115,18 +115,18 @@ module _ (T : Table) (small : T.size ≤ saved_room) (cut : ℕ) (fs : List Face
 
 -- LAW: what a match left then, widened, is what it packs today, and zeros behind it
 left_widened : (T : Table) → T.size ≤ saved_room → (cut : ℕ) (fs : List Face) (n : ℕ) → packed_count fs ≤ n
-    → (length (left_then T cut fs n) ≡ savedWords * n) × (widened (left_then T cut fs n) ≡ packed_sets T cut fs ++ zeros (setWords * n - length (packed_sets T cut fs)))
+    → (length (left_then T cut fs n) ≡ saved_words * n) × (widened (left_then T cut fs n) ≡ packed_sets T cut fs ++ zeros (set_words_lem * n - length (packed_sets T cut fs)))
 unfolding left_then packed_sets packed_count
 left_widened T small cut fs n few =
     let all = sets_of T cut fs (order fs) in
-    let filled = all_words_by savedWords all in
-    let then : savedWords * n - length filled ≡ savedWords * (n - length all) = omega (arith, length-words_by savedWords (λ set. refl) all) in
-    let now : setWords * (n - length all) ≡ setWords * n - length (all_words_lem all) = omega (arith, length-words all) in (
+    let filled = all_words_by saved_words all in
+    let then : saved_words * n - length filled ≡ saved_words * (n - length all) = omega (arith, length-words_by saved_words (λ set. refl) all) in
+    let now : set_words_lem * (n - length all) ≡ set_words_lem * n - length (all_words_lem all) = omega (arith, length-words all) in (
       omega (
         arith,
-        length-append filled (zeros (savedWords * n - length filled)),
-        length-replicate {A = ℕ} (savedWords * n - length filled) 0,
-        length-words_by savedWords (λ set. refl) all,
+        length-append filled (zeros (saved_words * n - length filled)),
+        length-replicate {A = ℕ} (saved_words * n - length filled) 0,
+        length-words_by saved_words (λ set. refl) all,
         length_sets T cut fs (order fs),
       ),
       ap (λ k. widened (filled ++ zeros k)) then ∙ widened_sets all (sets_small T small cut fs (order fs)) (n - length all) ∙ ap (λ k. all_words_lem all ++ zeros k) now,
@@ -134,19 +134,19 @@ left_widened T small cut fs n few =
 
 module _ (table pattern heading : List ℕ) (cut : ℕ) (spans sets output : List ℕ) where
   -- THEOREM: a saved answer, converted, is the answer of today
-  pub as_today : (tableIn table).size ≤ saved_room → (d : Degrees) → matched table pattern heading cut spans sets ≡ gives d
-      → (n : ℕ) → length sets ≡ setWords * n → length sets ≤ length output
-      → later_words (left_then (tableIn table) cut (facesIn table pattern heading) n) output ≡ later_sets table pattern heading cut spans sets ++ drop (length sets) output
-  unfolding later_words widen_rows row8-words row8-output facesIn
+  pub as_today : (table_in table).size ≤ saved_room → (d : Degrees) → matched table pattern heading cut spans sets ≡ gives d
+      → (n : ℕ) → length sets ≡ set_words_lem * n → length sets ≤ length output
+      → later_words (left_then (table_in table) cut (faces_in table pattern heading) n) output ≡ later_sets table pattern heading cut spans sets ++ drop (length sets) output
+  unfolding later_words widen_rows row8-words row8-output faces_in
   as_today small d e n room long =
-      let T = tableIn table in
-      let fs = facesIn table pattern heading in
+      let T = table_in table in
+      let fs = faces_in table pattern heading in
       let q = answered_none table pattern heading cut spans sets d e in
       let few : packed_count fs ≤ n = omega (arith, (rooms table pattern heading cut spans sets q).1) in
       let l = left_widened T small cut fs n few in
       let words = left_then T cut fs n in
-      let whole : length words % savedWords ≡ 0 = omega (arith, l.0) in
+      let whole : length words % saved_words ≡ 0 = omega (arith, l.0) in
       let wide : 2 * length words ≡ length sets = omega (arith, l.0) in
-      rw (eq-eqb (length words % savedWords) 0 whole, le-ltb (length output) (2 * length words) (omega arith))
+      rw (eq-eqb (length words % saved_words) 0 whole, le-ltb (length output) (2 * length words) (omega arith))
       (ap₂ (λ front i. front ++ drop i output) (l.1 ∙ ap (λ k. packed_sets T cut fs ++ zeros (k - length (packed_sets T cut fs))) (inv room)) wide
       ∙ ap (λ front. front ++ drop (length sets) output) (inv (sets_are table pattern heading cut spans sets q)))

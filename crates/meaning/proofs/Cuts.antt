@@ -16,11 +16,11 @@ use Rattle.theory.specs.Decode.{pattern_of, term_of}
 use Rattle.theory.proofs.Decoding.{fine_over}
 use Rattle.theory.proofs.Theorems.{answered, matchers_cut, answered_cut, highest_cut, sets_cut}
 use Rattle.theory.proofs.Own.{highest_for_cut}
-use Rattle.meaning.specs.Limits.{setRoom, variableCount, spanWidth}
-use Rattle.meaning.specs.File.{tableIn}
+use Rattle.meaning.specs.Limits.{set_room, variable_count, span_width}
+use Rattle.meaning.specs.File.{table_in}
 use Rattle.meaning.specs.Refusals.{first}
 use Rattle.meaning.specs.Packing.{order, count_of, start_in, among, span_from, span_in, packed_spans, packed_sets, sets_of}
-use Rattle.meaning.specs.Calls.{gives, Degrees, degrees, zeros, facesIn, match_rows, matched, later_spans, later_sets, matchCall}
+use Rattle.meaning.specs.Calls.{gives, Degrees, degrees, zeros, faces_in, match_rows, matched, later_spans, later_sets, match_call}
 use Rattle.meaning.specs.Buffers.{holds}
 use Rattle.meaning.specs.Demands.{Accepted, Narrower, Demand3}
 use Rattle.meaning.proofs.First.{unless_gives}
@@ -35,16 +35,16 @@ same_degrees a b c d e = cc
 module _ (table pattern heading : List ℕ) (cut₁ : ℕ) (spans₁ sets₁ : List ℕ) (cut₂ : ℕ) (spans₂ sets₂ : List ℕ) (up : cut₁ ≤ cut₂)
     (a₁ : Accepted table pattern heading cut₁ spans₁ sets₁) (a₂ : Accepted table pattern heading cut₂ spans₂ sets₂) where
   abbrev T : Table
-  T = tableIn table
+  T = table_in table
 
   abbrev p : Pattern
-  p = pattern_of (tableIn table) pattern
+  p = pattern_of (table_in table) pattern
 
   abbrev h : Term
-  h = term_of (tableIn table) heading
+  h = term_of (table_in table) heading
 
   abbrev fs : List Face
-  fs = faces (pattern_of (tableIn table) pattern) (term_of (tableIn table) heading)
+  fs = faces (pattern_of (table_in table) pattern) (term_of (table_in table) heading)
 
   r₁ : Ready table pattern heading cut₁
   r₁ = ready table pattern heading cut₁ spans₁ sets₁ a₁
@@ -76,8 +76,8 @@ module _ (table pattern heading : List ℕ) (cut₁ : ℕ) (spans₁ sets₁ : L
 
   -- what the buffers say where neither is refused
   module _ (e₁ : first (match_rows table pattern heading cut₁ spans₁ sets₁) ≡ none) (e₂ : first (match_rows table pattern heading cut₂ spans₂ sets₂) ≡ none) where
-    spans_same : (v j : ℕ) → v < variableCount → j < spanWidth → get_or (span_in T cut₂ fs (order fs) v) j 0 ≡ get_or (span_in T cut₁ fs (order fs) v) j 0
-        → get_or (later_spans table pattern heading cut₂ spans₂ sets₂) (spanWidth * v + j) 0 ≡ get_or (later_spans table pattern heading cut₁ spans₁ sets₁) (spanWidth * v + j) 0
+    spans_same : (v j : ℕ) → v < variable_count → j < span_width → get_or (span_in T cut₂ fs (order fs) v) j 0 ≡ get_or (span_in T cut₁ fs (order fs) v) j 0
+        → get_or (later_spans table pattern heading cut₂ spans₂ sets₂) (span_width * v + j) 0 ≡ get_or (later_spans table pattern heading cut₁ spans₁ sets₁) (span_width * v + j) 0
     spans_same v j l m same =
         rw (spans_are table pattern heading cut₂ spans₂ sets₂ e₂, spans_are table pattern heading cut₁ spans₁ sets₁ e₁)
         (span_at T cut₂ fs (zeros (length spans₂ - length (packed_spans T cut₂ fs))) v j l m
@@ -99,7 +99,7 @@ module _ (table pattern heading : List ℕ) (cut₁ : ℕ) (spans₁ sets₁ : L
         go true m (suc (suc (suc (suc j)))) n = refl
         go false m j n = refl
 
-    sets_narrow : (position symbol : ℕ) → symbol < setRoom
+    sets_narrow : (position symbol : ℕ) → symbol < set_room
         → holds (later_sets table pattern heading cut₂ spans₂ sets₂) position symbol ≡ true
         → holds (later_sets table pattern heading cut₁ spans₁ sets₁) position symbol ≡ true
     unfolding packed_sets
@@ -111,8 +111,8 @@ module _ (table pattern heading : List ℕ) (cut₁ : ℕ) (spans₁ sets₁ : L
         (inv (holds_at (sets_of T cut₂ fs (order fs)) (length sets₂ - length (packed_sets T cut₂ fs)) position symbol l) ∙ q))
 
   narrower : (low₂ high₂ : ℕ) → matched table pattern heading cut₂ spans₂ sets₂ ≡ gives (degrees low₂ high₂)
-      → Narrower cut₂ (matchCall table pattern heading cut₁ spans₁ sets₁) (matchCall table pattern heading cut₂ spans₂ sets₂) low₂ high₂
-  unfolding matched facesIn
+      → Narrower cut₂ (match_call table pattern heading cut₁ spans₁ sets₁) (match_call table pattern heading cut₂ spans₂ sets₂) low₂ high₂
+  unfolding matched faces_in
   narrower low₂ high₂ e =
       let g = unless_gives (first (match_rows table pattern heading cut₂ spans₂ sets₂)) (degrees (lowest_of_lem T cut₂ fs) (highest_of T cut₂ fs)) (degrees low₂ high₂) e in
       let b₂ : Matches T cut₂ p h = none₂.0 g.0 in
@@ -130,13 +130,13 @@ module _ (table pattern heading : List ℕ) (cut₁ : ℕ) (spans₁ sets₁ : L
         same_own_highest = λ v l. spans_same e₁ g.0 v 3 l (omega arith) (same_span e₁ g.0 v 3 (λ z. omega arith));
       }
     where
-      plain : (v : ℕ) → get_or (later_spans table pattern heading cut₂ spans₂ sets₂) (spanWidth * v + 0) 0 ≡ get_or (later_spans table pattern heading cut₁ spans₁ sets₁) (spanWidth * v + 0) 0
-          → get_or (later_spans table pattern heading cut₂ spans₂ sets₂) (spanWidth * v) 0 ≡ get_or (later_spans table pattern heading cut₁ spans₁ sets₁) (spanWidth * v) 0
-      plain v q = let i : spanWidth * v + 0 ≡ spanWidth * v = omega arith in rw i at q
+      plain : (v : ℕ) → get_or (later_spans table pattern heading cut₂ spans₂ sets₂) (span_width * v + 0) 0 ≡ get_or (later_spans table pattern heading cut₁ spans₁ sets₁) (span_width * v + 0) 0
+          → get_or (later_spans table pattern heading cut₂ spans₂ sets₂) (span_width * v) 0 ≡ get_or (later_spans table pattern heading cut₁ spans₁ sets₁) (span_width * v) 0
+      plain v q = let i : span_width * v + 0 ≡ span_width * v = omega arith in rw i at q
 
   answers_second : (low₁ high₁ : ℕ) → matched table pattern heading cut₁ spans₁ sets₁ ≡ gives (degrees low₁ high₁) → cut₂ ≤ high₁
       → (d : Degrees) × (matched table pattern heading cut₂ spans₂ sets₂ ≡ gives d)
-  unfolding matched facesIn
+  unfolding matched faces_in
   answers_second low₁ high₁ e l =
       let g = unless_gives (first (match_rows table pattern heading cut₁ spans₁ sets₁)) (degrees (lowest_of_lem T cut₁ fs) (highest_of T cut₁ fs)) (degrees low₁ high₁) e in
       let k : highest_of T cut₁ fs ≡ high₁ = same_degrees _ _ _ _ g.1 in
@@ -145,7 +145,7 @@ module _ (table pattern heading : List ℕ) (cut₁ : ℕ) (spans₁ sets₁ : L
       (degrees (lowest_of_lem T cut₂ fs) (highest_of T cut₂ fs), rw e₂)
 
   -- THEOREM, demand 3
-  pub demand3 : Demand3 table pattern heading cut₁ (matchCall table pattern heading cut₁ spans₁ sets₁) cut₂ (matchCall table pattern heading cut₂ spans₂ sets₂)
+  pub demand3 : Demand3 table pattern heading cut₁ (match_call table pattern heading cut₁ spans₁ sets₁) cut₂ (match_call table pattern heading cut₂ spans₂ sets₂)
   demand3 =
       record {
         p = p;

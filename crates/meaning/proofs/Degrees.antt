@@ -14,8 +14,8 @@ use Rattle.theory.specs.Least.{All}
 use Rattle.theory.specs.Table.{Lawful}
 use Rattle.theory.specs.Pairs.{Pair, pair, is_pair, listed, SoundPair}
 use Rattle.theory.proofs.Lemmas.{all_get_d}
-use Rattle.meaning.specs.File.{symbolCount, pairCount, aritiesIn, pairsIn, tableIn}
-use Rattle.meaning.specs.Refusals.{row13, first, tableRows, SoundFile}
+use Rattle.meaning.specs.File.{symbol_count_lem, pair_count_lem, arities_in, pairs_in, table_in}
+use Rattle.meaning.specs.Refusals.{row13, first, table_rows, SoundFile}
 use Rattle.meaning.specs.Calls.{refused, gives, symbol_rows, symbol_degree_lem}
 use Rattle.meaning.specs.Tables.{SymbolDegrees}
 use Rattle.meaning.proofs.First.{first-append, unless_gives}
@@ -61,72 +61,72 @@ module _ (table : List ℕ) (e : SoundFile table) where
   q : Passed table
   q = passed table e
 
-  L : Lawful (tableIn table)
+  L : Lawful (table_in table)
   L = (sound table e).lawful
 
   -- LAW: of two symbols the call answers with the table's degree
-  pub gives_degree : (a b d : ℕ) → a < symbolCount table → b < symbolCount table → (tableIn table).deg a b ≡ d → symbol_degree_lem table a b ≡ gives d
+  pub gives_degree : (a b d : ℕ) → a < symbol_count_lem table → b < symbol_count_lem table → (table_in table).deg a b ≡ d → symbol_degree_lem table a b ≡ gives d
   unfolding symbol_degree_lem symbol_rows row13
   gives_degree a b d l m k =
-      rw (first-append (tableRows table) (row13 (symbolCount table) a b ∷ []) e, lt-ltb a (symbolCount table) l, lt-ltb b (symbolCount table) m) (ap gives k)
+      rw (first-append (table_rows table) (row13 (symbol_count_lem table) a b ∷ []) e, lt-ltb a (symbol_count_lem table) l, lt-ltb b (symbol_count_lem table) m) (ap gives k)
 
   -- .. and a number that is no symbol is refused at its place
-  names_first : (a b : ℕ) → symbolCount table ≤ a → symbol_degree_lem table a b ≡ refused 13 0
+  names_first : (a b : ℕ) → symbol_count_lem table ≤ a → symbol_degree_lem table a b ≡ refused 13 0
   unfolding symbol_degree_lem symbol_rows row13
-  names_first a b l = rw (first-append (tableRows table) (row13 (symbolCount table) a b ∷ []) e, le-ltb a (symbolCount table) l)
+  names_first a b l = rw (first-append (table_rows table) (row13 (symbol_count_lem table) a b ∷ []) e, le-ltb a (symbol_count_lem table) l)
 
-  names_second : (a b : ℕ) → a < symbolCount table → symbolCount table ≤ b → symbol_degree_lem table a b ≡ refused 13 1
+  names_second : (a b : ℕ) → a < symbol_count_lem table → symbol_count_lem table ≤ b → symbol_degree_lem table a b ≡ refused 13 1
   unfolding symbol_degree_lem symbol_rows row13
   names_second a b l m =
-      rw (first-append (tableRows table) (row13 (symbolCount table) a b ∷ []) e, lt-ltb a (symbolCount table) l, le-ltb b (symbolCount table) m)
+      rw (first-append (table_rows table) (row13 (symbol_count_lem table) a b ∷ []) e, lt-ltb a (symbol_count_lem table) l, le-ltb b (symbol_count_lem table) m)
 
   -- what the call gives is the table's degree
-  given_degree : (a b d : ℕ) → symbol_degree_lem table a b ≡ gives d → (tableIn table).deg a b ≡ d
+  given_degree : (a b d : ℕ) → symbol_degree_lem table a b ≡ gives d → (table_in table).deg a b ≡ d
   unfolding symbol_degree_lem
-  given_degree a b d k = (unless_gives (first (symbol_rows table a b)) ((tableIn table).deg a b) d k).1
+  given_degree a b d k = (unless_gives (first (symbol_rows table a b)) ((table_in table).deg a b) d k).1
 
-  pub listed_sound : (k l h d : ℕ) → k < pairCount table → get_or (pairsIn table) k (pair 0 0 0) ≡ pair l h d → SoundPair (aritiesIn table) (pair l h d)
+  pub listed_sound : (k l h d : ℕ) → k < pair_count_lem table → get_or (pairs_in table) k (pair 0 0 0) ≡ pair l h d → SoundPair (arities_in table) (pair l h d)
   listed_sound k l h d m f =
-      let n : k < length (pairsIn table) = omega (arith, length-pairs_in table) in
-      subst (SoundPair (aritiesIn table)) f (all_get_d (SoundPair (aritiesIn table)) (pairsIn table) k (pair 0 0 0) n q.pairs)
+      let n : k < length (pairs_in table) = omega (arith, length-pairs_in table) in
+      subst (SoundPair (arities_in table)) f (all_get_d (SoundPair (arities_in table)) (pairs_in table) k (pair 0 0 0) n q.pairs)
 
-  pub degree_listed : (k l h d : ℕ) → k < pairCount table → get_or (pairsIn table) k (pair 0 0 0) ≡ pair l h d → (tableIn table).deg l h ≡ d
-  unfolding tableIn
+  pub degree_listed : (k l h d : ℕ) → k < pair_count_lem table → get_or (pairs_in table) k (pair 0 0 0) ≡ pair l h d → (table_in table).deg l h ≡ d
+  unfolding table_in
   degree_listed k l h d m f =
-      let n : k < length (pairsIn table) = omega (arith, length-pairs_in table) in
+      let n : k < length (pairs_in table) = omega (arith, length-pairs_in table) in
       let s = listed_sound k l h d m f in
-      rw (lt-ltb l (length (aritiesIn table)) (omega (arith, s.0, s.1)), lt-ltb h (length (aritiesIn table)) s.1, ne_eqb l h (λ z. omega (arith, s.0)))
-      (listed_at (aritiesIn table) (pairsIn table) q.pairs (sorted (pairsIn table) q.ordered) k l h d n f)
+      rw (lt-ltb l (length (arities_in table)) (omega (arith, s.0, s.1)), lt-ltb h (length (arities_in table)) s.1, ne_eqb l h (λ z. omega (arith, s.0)))
+      (listed_at (arities_in table) (pairs_in table) q.pairs (sorted (pairs_in table) q.ordered) k l h d n f)
 
-  pub degree_others : (a b : ℕ) → (a ≡ b → ⊥) → ((k l h d : ℕ) → k < pairCount table → get_or (pairsIn table) k (pair 0 0 0) ≡ pair l h d → is_pair l h a b ≡ false) → (tableIn table).deg a b ≡ 0
-  unfolding tableIn
+  pub degree_others : (a b : ℕ) → (a ≡ b → ⊥) → ((k l h d : ℕ) → k < pair_count_lem table → get_or (pairs_in table) k (pair 0 0 0) ≡ pair l h d → is_pair l h a b ≡ false) → (table_in table).deg a b ≡ 0
+  unfolding table_in
   degree_others a b n no_pair =
-      rw (ne_eqb a b n, listed-none (pairsIn table) a b (λ k l h d m f. no_pair k l h d (omega (arith, length-pairs_in table)) f)) (both (ltb a (length (aritiesIn table)) && ltb b (length (aritiesIn table))))
+      rw (ne_eqb a b n, listed-none (pairs_in table) a b (λ k l h d m f. no_pair k l h d (omega (arith, length-pairs_in table)) f)) (both (ltb a (length (arities_in table)) && ltb b (length (arities_in table))))
     where
       both : (t : Bool) → ◌≡◌ {A = ℕ} (cond t 0 0) 0
       both true = refl
       both false = refl
 
-  pub degree_outside : (a b : ℕ) → (symbolCount table ≤ a) ⊎ (symbolCount table ≤ b) → (tableIn table).deg a b ≡ 0
-  unfolding tableIn
-  degree_outside a b (inl l) = rw (le-ltb a (length (aritiesIn table)) (omega (arith, length-arities_in table q)))
-  degree_outside a b (inr l) = rw (le-ltb b (length (aritiesIn table)) (omega (arith, length-arities_in table q))) (zero_of (ltb a (length (aritiesIn table))))
+  pub degree_outside : (a b : ℕ) → (symbol_count_lem table ≤ a) ⊎ (symbol_count_lem table ≤ b) → (table_in table).deg a b ≡ 0
+  unfolding table_in
+  degree_outside a b (inl l) = rw (le-ltb a (length (arities_in table)) (omega (arith, length-arities_in table q)))
+  degree_outside a b (inr l) = rw (le-ltb b (length (arities_in table)) (omega (arith, length-arities_in table q))) (zero_of (ltb a (length (arities_in table))))
     where
-      zero_of : (t : Bool) → cond (t && false) (cond (eqb a b) 1000 (listed (pairsIn table) a b)) 0 ≡ 0
+      zero_of : (t : Bool) → cond (t && false) (cond (eqb a b) 1000 (listed (pairs_in table) a b)) 0 ≡ 0
       zero_of true = refl
       zero_of false = refl
 
   -- THEOREM
   pub symbol_degrees : SymbolDegrees table (symbol_degree_lem table)
-  unfolding tableIn
+  unfolding table_in
   symbol_degrees =
       record {
         itself = λ a l. gives_degree a a 1000 l l (L.itself a (omega (arith, length-arities_in table q)));
         whole = λ a b k. (sound table e).only_itself a b (given_degree a b 1000 k);
         listed = λ k l h d m f.
             let s = listed_sound k l h d m f in
-            let n : h < symbolCount table = omega (arith, s.1, length-arities_in table q) in
-            let o : l < symbolCount table = omega (arith, s.0) in
+            let n : h < symbol_count_lem table = omega (arith, s.1, length-arities_in table q) in
+            let o : l < symbol_count_lem table = omega (arith, s.0) in
             (gives_degree l h d o n (degree_listed k l h d m f), gives_degree h l d n o (L.either h l ∙ degree_listed k l h d m f));
         others = λ a b l m n f. gives_degree a b 0 l m (degree_others a b n f);
         first-outside = names_first;

@@ -12,9 +12,9 @@ use Rattle.theory.specs.Least.{All}
 use Rattle.theory.specs.Read.{Reading, whole, faulty, reading}
 use Rattle.theory.specs.Faults.{FaultAt}
 use Rattle.theory.proofs.Faults.{too_long, one_fault, at_fault, fault_at, places}
-use Rattle.meaning.specs.File.{tableIn}
-use Rattle.meaning.specs.Refusals.{refusal, Row, row, row_number, first, fault_of, row5, row6, row7, row8, row9, row10, tableRows, SoundFile}
-use Rattle.meaning.specs.Calls.{refused, unless, degree_rows, heading_degree, inputRows, search_rows, match_rows, matched, matchCall}
+use Rattle.meaning.specs.File.{table_in}
+use Rattle.meaning.specs.Refusals.{refusal, Row, row, row_number, first, fault_of, row5, row6, row7, row8, row9, row10, table_rows, SoundFile}
+use Rattle.meaning.specs.Calls.{refused, unless, degree_rows, heading_degree, input_rows, search_rows, match_rows, matched, match_call}
 use Rattle.meaning.specs.Faults.{FaultRows, TermFaults, HeadingFaults, MatchFaults}
 use Rattle.meaning.proofs.First.{unless_refused, first-append, silent_first}
 use Rattle.meaning.proofs.Sound.{sound}
@@ -23,7 +23,7 @@ use Rattle.meaning.proofs.Parts.{is_term_lem}
 
 -- ---- the rows
 
-small_size : (table : List ℕ) → SoundFile table → (tableIn table).size ≤ 32768
+small_size : (table : List ℕ) → SoundFile table → (table_in table).size ≤ 32768
 small_size table e = omega (arith, (sound table e).small)
 
 -- a row tells the place of what is read
@@ -35,7 +35,7 @@ told n (faulty i) j = ((λ e. cc), (λ e. cc))
 pub fault_rows : (table : List ℕ) → SoundFile table → FaultRows table
 unfolding row6 row7
 fault_rows table e =
-    let T = tableIn table in
+    let T = table_in table in
     let small = small_size table e in
     record {
       six_too_long = λ vars list l. (told 6 (reading T vars list) 1024).1 (too_long T vars list l);
@@ -98,14 +98,14 @@ term_faults T small vars one two before after e h a =
 -- THEOREM: the places of the degree of two headings
 pub heading_faults : HeadingFaults heading_degree
 unfolding heading_degree degree_rows
-heading_faults table one two e = term_faults (tableIn table) (small_size table e) false one two (tableRows table) [] e tt _
+heading_faults table one two e = term_faults (table_in table) (small_size table e) false one two (table_rows table) [] e tt _
 
 -- THEOREM: the places of a match
-pub match_faults : MatchFaults matchCall
-unfolding matched match_rows inputRows search_rows tableRows row8 row9 row10
+pub match_faults : MatchFaults match_call
+unfolding matched match_rows input_rows search_rows table_rows row8 row9 row10
 match_faults table pattern heading cut spans sets e low high =
-    term_faults (tableIn table) (small_size table e) true pattern heading (tableRows table ++ (row5 cut ∷ []))
+    term_faults (table_in table) (small_size table e) true pattern heading (table_rows table ++ (row5 cut ∷ []))
     (row8 heading spans sets ∷ search_rows table pattern heading cut) before (omega arith, (omega arith, (omega arith, tt))) _
   where
-    before : first (tableRows table ++ (row5 cut ∷ [])) ≡ none
-    before = first-append (tableRows table) (row5 cut ∷ []) e ∙ silent_first (row5 cut ∷ []) (silent_cut cut low high, tt)
+    before : first (table_rows table ++ (row5 cut ∷ [])) ≡ none
+    before = first-append (table_rows table) (row5 cut ∷ []) e ∙ silent_first (row5 cut ∷ []) (silent_cut cut low high, tt)

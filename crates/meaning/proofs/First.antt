@@ -10,10 +10,10 @@ use native.Mathlib.Numerals.{add-one}
 use native.Mathlib.Omega.{arith}
 use native.Mathlib.Decide.{dec_lt}
 use mathlib.Core.Bool.{Bool, true, false, cond}
-use Rattle.theory.specs.Least.{leastBelow, last_below, All}
+use Rattle.theory.specs.Least.{least_below, last_below, All}
 use lib.ListN.{length, get_or}
-use Rattle.meaning.specs.Refusals.{Refusal, refusal, Row, row, row_place, first, Given, row1_short, row1_offsets, row2, row3, row4, row5, row6, row7, row8, row8-output, row9, row10, row13, row14, tableRows}
-use Rattle.meaning.specs.Calls.{refused, gives, unless, symbol_rows, degree_rows, subtermRows, inputRows, search_rows, match_rows, writer_rows, back_rows}
+use Rattle.meaning.specs.Refusals.{Refusal, refusal, Row, row, row_place, first, Given, row1_short, row1_offsets, row2, row3, row4, row5, row6, row7, row8, row8-output, row9, row10, row13, row14, table_rows}
+use Rattle.meaning.specs.Calls.{refused, gives, unless, symbol_rows, degree_rows, subterm_rows, input_rows, search_rows, match_rows, writer_rows, back_rows}
 use Rattle.meaning.specs.Saved.{row8-words, widen_rows}
 use Rattle.meaning.specs.Demands.{Exactly, Order}
 
@@ -75,7 +75,7 @@ module _ {A : Type 0} where
 
 -- THEOREM: the rows of each call stand in their order, whatever is lent
 pub order : Order
-unfolding symbol_rows degree_rows subtermRows match_rows inputRows search_rows writer_rows back_rows widen_rows row8-words tableRows row1_short row1_offsets row2 row3 row4 row5 row6 row7 row8 row8-output row9 row10 row13 row14
+unfolding symbol_rows degree_rows subterm_rows match_rows input_rows search_rows writer_rows back_rows widen_rows row8-words table_rows row1_short row1_offsets row2 row3 row4 row5 row6 row7 row8 row8-output row9 row10 row13 row14
 order =
     record {
       is_table_lem-is = λ table. refl;
@@ -117,20 +117,20 @@ silent_first (row n (just i) ∷ rows) h = absurd (some-ne-none i h.0)
 -- ---- the least number that passes, as a loop seeks it
 
 -- none below k, and k does not pass
-pub least_on : (b : ℕ → Bool) (k : ℕ) → leastBelow k b ≡ none → b k ≡ false → leastBelow (suc k) b ≡ none
+pub least_on : (b : ℕ → Bool) (k : ℕ) → least_below k b ≡ none → b k ≡ false → least_below (suc k) b ≡ none
 least_on b k e q = rw (e, q)
 
 -- none below n
-pub none_below : (b : ℕ → Bool) (n : ℕ) → ((k : ℕ) → k < n → b k ≡ false) → leastBelow n b ≡ none
+pub none_below : (b : ℕ → Bool) (n : ℕ) → ((k : ℕ) → k < n → b k ≡ false) → least_below n b ≡ none
 none_below b zero h = refl
 none_below b (suc n) h = least_on b n (none_below b n (λ k l. h k (omega arith))) (h n (omega arith))
 
 -- none below k, and k passes
-pub least_at : (b : ℕ → Bool) (k n : ℕ) → leastBelow k b ≡ none → b k ≡ true → k < n → leastBelow n b ≡ just k
+pub least_at : (b : ℕ → Bool) (k n : ℕ) → least_below k b ≡ none → b k ≡ true → k < n → least_below n b ≡ just k
 least_at b k zero e q l = absurd (not-suc-le-zero l)
 least_at b k (suc n) e q l = go (dec_lt k n) (least_at b k n e q)
   where
-    go : Dec (k < n) → (k < n → leastBelow n b ≡ just k) → leastBelow (suc n) b ≡ just k
+    go : Dec (k < n) → (k < n → least_below n b ≡ just k) → least_below (suc n) b ≡ just k
     go (yes m) rest = rw (rest m)
     go (no m) rest =
         let s : n ≡ k = omega arith in

@@ -11,7 +11,7 @@ use lib.Dec.{eqb}
 use borrow.Author.Tests.{eqb-true, eqb-false, eq-eqb, ne_eqb}
 use Rattle.theory.specs.Tree.{Term, Pattern, stands}
 use Rattle.theory.specs.Table.{Table, Lawful, Over, Overₚ}
-use Rattle.theory.specs.Least.{All, leastBelow}
+use Rattle.theory.specs.Least.{All, least_below}
 use Rattle.theory.specs.Faces.{Face, meets, binds, faces, facing}
 use Rattle.theory.specs.Match.{clash, formed}
 use Rattle.theory.specs.Verdict.{lacking}
@@ -21,7 +21,7 @@ use Rattle.theory.proofs.Along.{Readable, all_faces}
 use Rattle.theory.proofs.Lemmas.{and_true}
 use Rattle.theory.proofs.Matchers.{Bound, standing, none_clear}
 use Rattle.theory.proofs.Present.{present}
-use Rattle.meaning.specs.Limits.{variableCount}
+use Rattle.meaning.specs.Limits.{variable_count}
 use Rattle.meaning.specs.Packing.{variables, without, firsts, order, among}
 use Rattle.meaning.specs.Search.{worst, unformed}
 use Rattle.meaning.proofs.First.{least_on, least_at}
@@ -69,17 +69,17 @@ or_here : (a b : Bool) → b ≡ true → cond a true b ≡ true
 or_here true b e = refl
 or_here false b e = e
 
-none_below : (n : ℕ) (b : ℕ → Bool) → ((v : ℕ) → v < n → b v ≡ false) → leastBelow n b ≡ none
+none_below : (n : ℕ) (b : ℕ → Bool) → ((v : ℕ) → v < n → b v ≡ false) → least_below n b ≡ none
 none_below zero b h = refl
 none_below (suc n) b h = least_on b n (none_below n b (λ v l. h v (omega arith))) (h n (omega arith))
 
 module _ (bad : ℕ → Bool) where
-  pub worst_top : (vs : List ℕ) → worst bad vs ≤ variableCount
+  pub worst_top : (vs : List ℕ) → worst bad vs ≤ variable_count
   worst_top [] = omega arith
   worst_top (v ∷ vs) = omega (arith, worst_top vs)
 
   -- LAW: one more: whatever it is, one that is bad, one that is not
-  pub worst_last : (vs : List ℕ) (v : ℕ) → worst bad (vs ++ (v ∷ [])) ≡ min (worst bad vs) (cond (bad v) v variableCount)
+  pub worst_last : (vs : List ℕ) (v : ℕ) → worst bad (vs ++ (v ∷ [])) ≡ min (worst bad vs) (cond (bad v) v variable_count)
   worst_last [] v = omega arith
   worst_last (w ∷ vs) v = omega (arith, worst_last vs v)
 
@@ -98,15 +98,15 @@ module _ (bad : ℕ → Bool) where
       go true q a rest = rw (← eqb-true v w q, b) (omega arith)
       go false q a rest = omega (arith, rest a b)
 
-  worst_is : (vs : List ℕ) (n : ℕ) → worst bad vs ≡ n → n < variableCount → (among n vs ≡ true) × (bad n ≡ true)
+  worst_is : (vs : List ℕ) (n : ℕ) → worst bad vs ≡ n → n < variable_count → (among n vs ≡ true) × (bad n ≡ true)
   worst_is [] n e l = absurd (omega arith)
   worst_is (v ∷ vs) n e l = go (bad v) refl (ℕ_discrete n v) e (worst_is vs n)
     where
       behind : (among n vs ≡ true) × (bad n ≡ true) → (among n (v ∷ vs) ≡ true) × (bad n ≡ true)
       behind r = (or_here (eqb n v) (among n vs) r.0, r.1)
 
-      go : (t : Bool) → bad v ≡ t → Dec (n ≡ v) → min (cond t v variableCount) (worst bad vs) ≡ n
-          → (worst bad vs ≡ n → n < variableCount → (among n vs ≡ true) × (bad n ≡ true)) → (among n (v ∷ vs) ≡ true) × (bad n ≡ true)
+      go : (t : Bool) → bad v ≡ t → Dec (n ≡ v) → min (cond t v variable_count) (worst bad vs) ≡ n
+          → (worst bad vs ≡ n → n < variable_count → (among n vs ≡ true) × (bad n ≡ true)) → (among n (v ∷ vs) ≡ true) × (bad n ≡ true)
       go false q d e rest = behind (rest (omega arith) l)
       go true q (yes d) e rest = rw d (rw (eq-eqb v v refl), q)
       go true q (no d) e rest = behind (rest (omega arith) l)
@@ -122,13 +122,13 @@ module _ (bad : ℕ → Bool) where
         go true p true q = absurd (omega (arith, worst-least vs v p q))
 
     -- LAW: the least number that passes is the worst
-    pub worst-none : worst bad vs ≡ variableCount → leastBelow variableCount test ≡ none
-    worst-none e = none_below variableCount test (λ v l. passes_not v (omega arith))
+    pub worst-none : worst bad vs ≡ variable_count → least_below variable_count test ≡ none
+    worst-none e = none_below variable_count test (λ v l. passes_not v (omega arith))
 
-    pub worst_just : worst bad vs < variableCount → leastBelow variableCount test ≡ just (worst bad vs)
+    pub worst_just : worst bad vs < variable_count → least_below variable_count test ≡ just (worst bad vs)
     worst_just l =
         let w = worst_is vs (worst bad vs) refl l in
-        least_at test (worst bad vs) variableCount (none_below (worst bad vs) test passes_not)
+        least_at test (worst bad vs) variable_count (none_below (worst bad vs) test passes_not)
         (is (worst bad vs) ∙ and_true (among (worst bad vs) vs) (bad (worst bad vs)) w.0 w.1) l
 
 -- ---- refusal 10
@@ -163,10 +163,10 @@ module _ {T : Table} {c : ℕ} {p : Pattern} {h : Term} (u : Unclashed T c p h) 
   lacks v = ap (λ b. b && unformed T c (faces p h) v) (stands_order v)
 
   -- LAW: every variable of the order has a form
-  pub lacking-none : worst (unformed T c (faces p h)) (order (faces p h)) ≡ variableCount → leastBelow variableCount (lacking T c p h) ≡ none
+  pub lacking-none : worst (unformed T c (faces p h)) (order (faces p h)) ≡ variable_count → least_below variable_count (lacking T c p h) ≡ none
   lacking-none = worst-none (unformed T c (faces p h)) (order (faces p h)) (lacking T c p h) lacks
 
   -- LAW: the least that has none
-  pub lacking_just : worst (unformed T c (faces p h)) (order (faces p h)) < variableCount
-      → leastBelow variableCount (lacking T c p h) ≡ just (worst (unformed T c (faces p h)) (order (faces p h)))
+  pub lacking_just : worst (unformed T c (faces p h)) (order (faces p h)) < variable_count
+      → least_below variable_count (lacking T c p h) ≡ just (worst (unformed T c (faces p h)) (order (faces p h)))
   lacking_just = worst_just (unformed T c (faces p h)) (order (faces p h)) (lacking T c p h) lacks

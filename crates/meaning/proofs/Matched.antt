@@ -12,7 +12,7 @@ use Rattle.theory.specs.Tree.{Term, Pattern, stands}
 use Rattle.theory.specs.Table.{Table, Lawful, OnlyItself, Over, Overₚ}
 use Rattle.theory.specs.Faces.{Face, faces, facing}
 use Rattle.theory.specs.Match.{size, clash, lowest_of_lem, highest_of, Matches, Drawn, DrawnAll}
-use Rattle.theory.specs.Least.{leastBelow}
+use Rattle.theory.specs.Least.{least_below}
 use Rattle.theory.specs.Verdict.{verdict, settled, lacking, NoMatcher, Means, MeansMatch}
 use Rattle.theory.specs.Read.{Fine}
 use Rattle.theory.specs.Decode.{pattern_of, term_of}
@@ -21,11 +21,11 @@ use Rattle.theory.proofs.Matchers.{none_clear, facing-over}
 use Rattle.theory.proofs.Present.{present}
 use Rattle.theory.proofs.Theorems.{answered}
 use Rattle.theory.proofs.Verdict.{verdict_means, stands_small}
-use Rattle.meaning.specs.Limits.{mostSymbols, variableCount, spanWidth}
-use Rattle.meaning.specs.File.{tableIn}
-use Rattle.meaning.specs.Refusals.{Refusal, refusal, row, first, outside, tableRows, row5, row6, row7, row8, row9, row10}
+use Rattle.meaning.specs.Limits.{most_symbols, variable_count, span_width}
+use Rattle.meaning.specs.File.{table_in}
+use Rattle.meaning.specs.Refusals.{Refusal, refusal, row, first, outside, table_rows, row5, row6, row7, row8, row9, row10}
 use Rattle.meaning.specs.Packing.{order, among, packed_spans, packed_sets, sets_of}
-use Rattle.meaning.specs.Calls.{Answer, refused, unless, Degrees, degrees, zeros, facesIn, inputRows, search_rows, match_rows, matched, later_spans, later_sets, matchCall}
+use Rattle.meaning.specs.Calls.{Answer, refused, unless, Degrees, degrees, zeros, faces_in, input_rows, search_rows, match_rows, matched, later_spans, later_sets, match_call}
 use Rattle.meaning.specs.Buffers.{holds, DrawnFrom}
 use Rattle.meaning.specs.Demands.{WritesTerm, WritesPattern, Only, Accepted, NoMatch, Found, Decides, Demand2}
 use Rattle.meaning.proofs.First.{Silent, all_silent, append-none, first-append, unless_refused}
@@ -38,24 +38,24 @@ use Rattle.meaning.proofs.Drawn.{Packed, drawn_from}
 -- ---- what a call that is not refused by 1 to 8 has passed
 
 pub record Ready (table pattern heading : List ℕ) (cut : ℕ) : Type 0 where
-  pub lawful : Lawful (tableIn table)
-  pub only_itself : OnlyItself (tableIn table)
-  pub small : (tableIn table).size ≤ mostSymbols
+  pub lawful : Lawful (table_in table)
+  pub only_itself : OnlyItself (table_in table)
+  pub small : (table_in table).size ≤ most_symbols
   pub positive : 0 < cut
   pub cut_top : cut ≤ 1000
-  pub pattern_is : Only (WritesPattern (tableIn table) pattern) (pattern_of (tableIn table) pattern)
-  pub heading_is : Only (WritesTerm (tableIn table) heading) (term_of (tableIn table) heading)
+  pub pattern_is : Only (WritesPattern (table_in table) pattern) (pattern_of (table_in table) pattern)
+  pub heading_is : Only (WritesTerm (table_in table) heading) (term_of (table_in table) heading)
 
 cut_inside : (cut : ℕ) → Silent (row5 cut) → (1 ≤ cut) × (cut ≤ 1000)
 unfolding row5
 cut_inside cut e = inside_of 1 1000 cut (at0-none (outside 1 1000 cut) e)
 
 pub ready : (table pattern heading : List ℕ) (cut : ℕ) (spans sets : List ℕ) → Accepted table pattern heading cut spans sets → Ready table pattern heading cut
-unfolding inputRows
+unfolding input_rows
 ready table pattern heading cut spans sets a =
-    let T = tableIn table in
+    let T = table_in table in
     let rest = row5 cut ∷ row6 T true pattern ∷ row7 T heading ∷ row8 heading spans sets ∷ [] in
-    let r = append-none (tableRows table) rest a in
+    let r = append-none (table_rows table) rest a in
     let s = all_silent rest r.1 in
     let t = sound table r.0 in
     let b : T.size ≤ 32768 = omega (arith, t.small) in
@@ -95,7 +95,7 @@ MatchMeans T c p h = Matches T c p h × MeansMatch T c p h (lowest_of_lem T c (f
 module _ (T : Table) (L : Lawful T) (c : ℕ) (pos : 0 < c) (cut : c ≤ 1000) (p : Pattern) (h : Term) (op : Fine T true p) (oh : Over T h) where
   pub search_ends : Ending (first (row9 T c p h ∷ row10 T c p h ∷ [])) (NoMatcher T c p h) (MatchMeans T c p h)
   unfolding row9 row10 verdict
-  search_ends = go (clash T c (faces p h)) refl (leastBelow variableCount (lacking T c p h)) refl (verdict_means T L p h op oh c pos cut)
+  search_ends = go (clash T c (faces p h)) refl (least_below variable_count (lacking T c p h)) refl (verdict_means T L p h op oh c pos cut)
     where
       over_p : Overₚ T p
       over_p = fine_over T true p op
@@ -106,7 +106,7 @@ module _ (T : Table) (L : Lawful T) (c : ℕ) (pos : 0 < c) (cut : c ≤ 1000) (
       high : ℕ
       high = highest_of T c (faces p h)
 
-      go : (o : Option ℕ) → clash T c (faces p h) ≡ o → (q : Option ℕ) → leastBelow variableCount (lacking T c p h) ≡ q → Means T c p h (settled o q low high)
+      go : (o : Option ℕ) → clash T c (faces p h) ≡ o → (q : Option ℕ) → least_below variable_count (lacking T c p h) ≡ q → Means T c p h (settled o q low high)
           → Ending (first (row 9 o ∷ row 10 q ∷ [])) (NoMatcher T c p h) (MatchMeans T c p h)
       go (just i) e q f m = by9 i refl m.1
       go none e (just v) f m = by10 v refl m.no_matcher
@@ -116,7 +116,7 @@ module _ (T : Table) (L : Lawful T) (c : ℕ) (pos : 0 < c) (cut : c ≤ 1000) (
 -- ---- the buffers of an answered match
 
 module _ (T : Table) (c : ℕ) (fs : List Face) where
-  pub packed : (m n v : ℕ) → v < variableCount → 0 < length (facing v fs) → Packed T c fs v (packed_spans T c fs ++ zeros m) (packed_sets T c fs ++ zeros n)
+  pub packed : (m n v : ℕ) → v < variable_count → 0 < length (facing v fs) → Packed T c fs v (packed_spans T c fs ++ zeros m) (packed_sets T c fs ++ zeros n)
   unfolding packed_sets
   packed m n v l some =
       record {
@@ -129,43 +129,43 @@ module _ (T : Table) (c : ℕ) (fs : List Face) where
       s : among v (order fs) ≡ true
       s = order-among v fs some
 
-      zero_more : spanWidth * v ≡ spanWidth * v + 0
+      zero_more : span_width * v ≡ span_width * v + 0
       zero_more = omega arith
 
 -- ---- demand 2
 
 module _ (table pattern heading : List ℕ) (cut : ℕ) (spans sets : List ℕ) where
   abbrev T : Table
-  T = tableIn table
+  T = table_in table
 
   abbrev p : Pattern
-  p = pattern_of (tableIn table) pattern
+  p = pattern_of (table_in table) pattern
 
   abbrev h : Term
-  h = term_of (tableIn table) heading
+  h = term_of (table_in table) heading
 
   pub match_ends : Accepted table pattern heading cut spans sets → Ready table pattern heading cut
       → Ending (first (match_rows table pattern heading cut spans sets)) (NoMatcher T cut p h) (MatchMeans T cut p h)
   unfolding match_rows search_rows
   match_ends a r =
-      rw (first-append (inputRows table pattern heading cut spans sets) (search_rows table pattern heading cut) a)
+      rw (first-append (input_rows table pattern heading cut spans sets) (search_rows table pattern heading cut) a)
       (search_ends T r.lawful cut r.positive r.cut_top p h r.pattern_is.holds.fine r.heading_is.holds.over)
 
   -- the buffers, where no refusal is given
   pub spans_are : first (match_rows table pattern heading cut spans sets) ≡ none
       → later_spans table pattern heading cut spans sets ≡ packed_spans T cut (faces p h) ++ zeros (length spans - length (packed_spans T cut (faces p h)))
-  unfolding later_spans facesIn
+  unfolding later_spans faces_in
   spans_are e = rw e
 
   pub sets_are : first (match_rows table pattern heading cut spans sets) ≡ none
       → later_sets table pattern heading cut spans sets ≡ packed_sets T cut (faces p h) ++ zeros (length sets - length (packed_sets T cut (faces p h)))
-  unfolding later_sets facesIn
+  unfolding later_sets faces_in
   sets_are e = rw e
 
   -- an answered match has found all
   pub found : Ready table pattern heading cut → first (match_rows table pattern heading cut spans sets) ≡ none → MatchMeans T cut p h
-      → Found T cut p h (matchCall table pattern heading cut spans sets)
-  unfolding matched facesIn
+      → Found T cut p h (match_call table pattern heading cut spans sets)
+  unfolding matched faces_in
   found r e a =
       record {
         lowest = lowest_of_lem T cut fs;
@@ -212,13 +212,13 @@ module _ (table pattern heading : List ℕ) (cut : ℕ) (spans sets : List ℕ) 
   given o = unless o (degrees (lowest_of_lem T cut (faces p h)) (highest_of T cut (faces p h)))
 
   decided : Ready table pattern heading cut → Ending (first (match_rows table pattern heading cut spans sets)) (NoMatcher T cut p h) (MatchMeans T cut p h)
-      → Decides T cut p h (matchCall table pattern heading cut spans sets)
-  unfolding matched facesIn
+      → Decides T cut p h (match_call table pattern heading cut spans sets)
+  unfolding matched faces_in
   decided r (by9 i e n) =
-      let m : NoMatch (matchCall table pattern heading cut spans sets) = (i, inl (ap given e)) in
+      let m : NoMatch (match_call table pattern heading cut spans sets) = (i, inl (ap given e)) in
       record { no_match = ((λ q. n), (λ q. m)); otherwise = λ q. absurd (q m) }
   decided r (by10 v e n) =
-      let m : NoMatch (matchCall table pattern heading cut spans sets) = (v, inr (ap given e)) in
+      let m : NoMatch (match_call table pattern heading cut spans sets) = (v, inr (ap given e)) in
       record { no_match = ((λ q. n), (λ q. m)); otherwise = λ q. absurd (q m) }
   decided r (fine e a) =
       record {
@@ -229,11 +229,11 @@ module _ (table pattern heading : List ℕ) (cut : ℕ) (spans sets : List ℕ) 
       not_refused : (n place : ℕ) → given (first (match_rows table pattern heading cut spans sets)) ≡ refused n place → ⊥
       not_refused n place q = some-ne-none (refusal n place) (inv (unless_refused _ _ n place q) ∙ e)
 
-      never : NoMatch (matchCall table pattern heading cut spans sets) → ⊥
+      never : NoMatch (match_call table pattern heading cut spans sets) → ⊥
       never q = ⊎_elim (λ x. not_refused 9 q.0 x) (λ x. not_refused 10 q.0 x) q.1
 
   -- THEOREM, demand 2
-  pub demand2 : Accepted table pattern heading cut spans sets → Demand2 table pattern heading cut (matchCall table pattern heading cut spans sets)
+  pub demand2 : Accepted table pattern heading cut spans sets → Demand2 table pattern heading cut (match_call table pattern heading cut spans sets)
   demand2 a =
       let r = ready table pattern heading cut spans sets a in
       record { p = p; h = h; writes_pattern = r.pattern_is; writes_heading = r.heading_is; decides = decided r (match_ends a r) }

@@ -18,11 +18,11 @@ use Rattle.theory.proofs.Matchers.{none_clear}
 use Rattle.theory.proofs.Taken.{taken_all}
 use Rattle.theory.proofs.Along.{Readable, all_faces}
 use Rattle.theory.proofs.Decoding.{fine_over, pattern_is, heading_of_lem}
-use Rattle.meaning.specs.File.{tableIn}
+use Rattle.meaning.specs.File.{table_in}
 use Rattle.meaning.specs.Refusals.{first, row9}
 use Rattle.meaning.specs.Packing.{variables, without, firsts, order, count_of, sum, packed_count, among}
-use Rattle.meaning.specs.Calls.{refused, search_rows, match_rows, matched, later_spans, matchCall}
-use Rattle.meaning.specs.Buffers.{positionCount}
+use Rattle.meaning.specs.Calls.{refused, search_rows, match_rows, matched, later_spans, match_call}
+use Rattle.meaning.specs.Buffers.{position_count_lem}
 use Rattle.meaning.specs.Demands.{WritesTerm, WritesPattern, Accepted}
 use Rattle.meaning.specs.Matching.{standing, NoOverlap}
 use Rattle.meaning.proofs.Compose.{by_search}
@@ -81,22 +81,22 @@ packed_few_read {T} {xs} {ys} r c pos clear =
 
 module _ (table pattern heading : List ℕ) (cut : ℕ) (spans sets : List ℕ) (a : Accepted table pattern heading cut spans sets) where
   abbrev fs : List Face
-  fs = all_faces (tableIn table) pattern heading
+  fs = all_faces (table_in table) pattern heading
 
   r : Ready table pattern heading cut
   r = ready table pattern heading cut spans sets a
 
   -- where the match tells of no clash there is none
-  apart : ((i : ℕ) → matched table pattern heading cut spans sets ≡ refused 9 i → ⊥) → taken fs ≡ enc (term_of (tableIn table) heading)
+  apart : ((i : ℕ) → matched table pattern heading cut spans sets ≡ refused 9 i → ⊥) → taken fs ≡ enc (term_of (table_in table) heading)
   unfolding search_rows row9
-  apart unclashed = go (clash (tableIn table) cut fs) refl
+  apart unclashed = go (clash (table_in table) cut fs) refl
     where
-      go : (o : Option ℕ) → clash (tableIn table) cut fs ≡ o → taken fs ≡ enc (term_of (tableIn table) heading)
+      go : (o : Option ℕ) → clash (table_in table) cut fs ≡ o → taken fs ≡ enc (term_of (table_in table) heading)
       go (just i) e = absurd (unclashed i (ap (λ m. m.answer) (by_search table pattern heading cut spans sets 9 i a (rw e))))
       go none e = all_taken r.lawful r.positive r.pattern_is.holds r.heading_is.holds e
 
   module _ (e : first (match_rows table pattern heading cut spans sets) ≡ none) where
-    clear : clash (tableIn table) cut fs ≡ none
+    clear : clash (table_in table) cut fs ≡ none
     clear = (given_none _ _ _ (match_ends table pattern heading cut spans sets a r) e).0.clear
 
     -- LAW: what an answered match packs is no more than the heading's nodes
@@ -105,17 +105,17 @@ module _ (table pattern heading : List ℕ) (cut : ℕ) (spans sets : List ℕ) 
 
     -- the counts that one reads in the spans
     counts : (vs : List ℕ) → ((w : ℕ) → among w vs ≡ true → among w (order fs) ≡ true)
-        → sum (positionCount (later_spans table pattern heading cut spans sets)) vs ≡ sum (count_of fs) vs
+        → sum (position_count_lem (later_spans table pattern heading cut spans sets)) vs ≡ sum (count_of fs) vs
     counts [] i = refl
     counts (v ∷ vs) i =
         ap₂ (λ m n. m + n) (packed_read table pattern heading cut spans sets e v (i v (rw (eq-eqb v v refl)))).1 (counts vs (λ w m. i w (among_more w v vs m)))
 
-    few : sum (positionCount (later_spans table pattern heading cut spans sets)) (firsts (standing (pattern_of (tableIn table) pattern))) ≤ size (term_of (tableIn table) heading)
+    few : sum (position_count_lem (later_spans table pattern heading cut spans sets)) (firsts (standing (pattern_of (table_in table) pattern))) ≤ size (term_of (table_in table) heading)
     unfolding packed_count
     few =
         rw (← in_order table pattern heading cut spans sets e)
         (omega (arith, counts (order fs) (λ w m. m), answered_few, ap length r.heading_is.holds.is))
 
   -- THEOREM: subterms that face different nodes never overlap, and what is packed fits
-  pub no_overlap : NoOverlap (pattern_of (tableIn table) pattern) (term_of (tableIn table) heading) (matchCall table pattern heading cut spans sets)
+  pub no_overlap : NoOverlap (pattern_of (table_in table) pattern) (term_of (table_in table) heading) (match_call table pattern heading cut spans sets)
   no_overlap = record { apart = apart; fits = λ d g. few (answered_none table pattern heading cut spans sets d g) }

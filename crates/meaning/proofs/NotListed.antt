@@ -7,14 +7,14 @@ use Prim.Native.Nat.{ℕ, ◌≤◌, ◌<◌}
 use native.Mathlib.Decide.{dec_lt}
 use native.Mathlib.Omega.{arith}
 use lib.ListN.{length, get_or}
-use Rattle.theory.specs.Least.{All, leastBelow}
+use Rattle.theory.specs.Least.{All, least_below}
 use Rattle.theory.specs.Pairs.{Pair, pair, SoundPair}
 use Rattle.theory.proofs.Lemmas.{both_false, least-none, LeastAt, least_just}
-use Rattle.meaning.specs.File.{symbolCount, pairCount, total, aritiesIn, pairsIn}
-use Rattle.meaning.specs.Refusals.{Row, row, row_number, first, unordered, badPair, row1_short, row1_offsets, row2, row3, row4, row8-output, tableRows}
+use Rattle.meaning.specs.File.{symbol_count_lem, pair_count_lem, total, arities_in, pairs_in}
+use Rattle.meaning.specs.Refusals.{Row, row, row_number, first, unordered, bad_pair_lem, row1_short, row1_offsets, row2, row3, row4, row8-output, table_rows}
 use Rattle.meaning.specs.Calls.{refused, unless, aye, is_table_lem, writer_rows, written}
 use Rattle.meaning.specs.Tables.{degree_at, RefusedThere, TopNotListed, TopNotWritten}
-use Rattle.meaning.proofs.Bytes.{pair_in}
+use Rattle.meaning.proofs.Bytes.{pair_in_lem}
 use Rattle.meaning.proofs.Sound.{sound_pair, length-pairs_in}
 
 -- a call whose rows before 4 have lower numbers, and whose row 4 holds at i: it is refused by 4 at k, unless a row before does or i is before k
@@ -26,7 +26,7 @@ there a (row n (just j) ∷ before) after low i k l h = absurd (omega (arith, lo
 
 module _ (arities : List ℕ) (pairs : List Pair) (k l h d : ℕ) (inside : k < length pairs) (is : get_or pairs k (pair 0 0 0) ≡ pair l h d) (top : 1000 ≤ d) where
   -- the pair does not pass
-  passes : badPair arities pairs k ≡ false → ⊥
+  passes : bad_pair_lem arities pairs k ≡ false → ⊥
   passes e =
       let s = sound_pair arities (get_or pairs k (pair 0 0 0)) (both_false _ (unordered pairs k) e).0 in
       omega (arith, (subst (SoundPair arities) is s).4)
@@ -34,23 +34,23 @@ module _ (arities : List ℕ) (pairs : List Pair) (k l h d : ℕ) (inside : k < 
   -- so row 4 holds, there or before
   holds : (i : ℕ) × (i ≤ k) × (row4 arities pairs ≡ row 4 (just i))
   unfolding row4
-  holds = go (leastBelow (length pairs) (badPair arities pairs)) refl
+  holds = go (least_below (length pairs) (bad_pair_lem arities pairs)) refl
     where
-      not_behind : (i : ℕ) → LeastAt (badPair arities pairs) i → Dec (k < i) → i ≤ k
+      not_behind : (i : ℕ) → LeastAt (bad_pair_lem arities pairs) i → Dec (k < i) → i ≤ k
       not_behind i q (yes m) = absurd (passes (q.least k m))
       not_behind i q (no m) = omega arith
 
-      go : (o : Option ℕ) → leastBelow (length pairs) (badPair arities pairs) ≡ o → (i : ℕ) × (i ≤ k) × (row 4 o ≡ row 4 (just i))
-      go none e = absurd (passes (least-none (length pairs) (badPair arities pairs) e k inside))
-      go (just i) e = (i, not_behind i (least_just (length pairs) (badPair arities pairs) i e) (dec_lt k i), refl)
+      go : (o : Option ℕ) → least_below (length pairs) (bad_pair_lem arities pairs) ≡ o → (i : ℕ) × (i ≤ k) × (row 4 o ≡ row 4 (just i))
+      go none e = absurd (passes (least-none (length pairs) (bad_pair_lem arities pairs) e k inside))
+      go (just i) e = (i, not_behind i (least_just (length pairs) (bad_pair_lem arities pairs) i e) (dec_lt k i), refl)
 
 -- THEOREM: in a file that is read
 pub top_not_listed : (file : List ℕ) → TopNotListed file (is_table_lem file)
-unfolding is_table_lem tableRows row1_short row1_offsets row2 row3
+unfolding is_table_lem table_rows row1_short row1_offsets row2 row3
 top_not_listed file k l top =
-    let q = holds (aritiesIn file) (pairsIn file) k _ _ (degree_at file k) (omega (arith, length-pairs_in file)) (pair_in file k l) top in
+    let q = holds (arities_in file) (pairs_in file) k _ _ (degree_at file k) (omega (arith, length-pairs_in file)) (pair_in_lem file k l) top in
     rw q.2
-    (there aye (row1_short file ∷ row2 (symbolCount file) (pairCount file) ∷ row1_offsets file ∷ row3 (aritiesIn file) ∷ []) []
+    (there aye (row1_short file ∷ row2 (symbol_count_lem file) (pair_count_lem file) ∷ row1_offsets file ∷ row3 (arities_in file) ∷ []) []
     (omega arith, (omega arith, (omega arith, (omega arith, tt)))) q.0 k q.1)
 
 -- THEOREM: in pairs that are to be written

@@ -14,7 +14,7 @@ use Rattle.theory.specs.Table.{Table}
 use Rattle.theory.specs.Faces.{Face, meets, binds, facing, keep}
 use Rattle.theory.specs.Match.{in_set}
 use Rattle.theory.proofs.Lemmas.{last_or_below}
-use Rattle.meaning.specs.Limits.{variableCount, spanWidth}
+use Rattle.meaning.specs.Limits.{variable_count, span_width}
 use Rattle.meaning.specs.Packing.{through, variables, without, firsts, order, count_of, start_in, among, span_from, span_in, packed_spans, sets_of}
 
 -- ---- lists of equal width, one after the other
@@ -92,24 +92,24 @@ order-among v fs l = firsts-among v (variables fs) (variables-among v fs l)
 
 module _ (T : Table) (c : ℕ) (fs : List Face) where
   -- LAW: a span's numbers
-  pub span_wide : (vs : List ℕ) (v : ℕ) → length (span_in T c fs vs v) ≡ spanWidth
+  pub span_wide : (vs : List ℕ) (v : ℕ) → length (span_in T c fs vs v) ≡ span_width
   span_wide vs v = go (among v vs)
     where
-      go : (b : Bool) → length (cond b (span_from T c fs (start_in (count_of fs) v vs) v) (0 ∷ 0 ∷ 0 ∷ 0 ∷ [])) ≡ spanWidth
+      go : (b : Bool) → length (cond b (span_from T c fs (start_in (count_of fs) v vs) v) (0 ∷ 0 ∷ 0 ∷ 0 ∷ [])) ≡ span_width
       go true = refl
       go false = refl
 
-  pub length_spans : length (packed_spans T c fs) ≡ spanWidth * variableCount
+  pub length_spans : length (packed_spans T c fs) ≡ span_width * variable_count
   unfolding packed_spans
-  length_spans = length-through (span_in T c fs (order fs)) spanWidth (span_wide (order fs)) 0 variableCount
+  length_spans = length-through (span_in T c fs (order fs)) span_width (span_wide (order fs)) 0 variable_count
 
   -- LAW: the numbers of a variable
-  pub span_at : (rest : List ℕ) (v j : ℕ) → v < variableCount → j < spanWidth → get_or (packed_spans T c fs ++ rest) (spanWidth * v + j) 0 ≡ get_or (span_in T c fs (order fs) v) j 0
+  pub span_at : (rest : List ℕ) (v j : ℕ) → v < variable_count → j < span_width → get_or (packed_spans T c fs ++ rest) (span_width * v + j) 0 ≡ get_or (span_in T c fs (order fs) v) j 0
   unfolding packed_spans
   span_at rest v j l m =
       let spans = span_in T c fs (order fs) in
-      get_or-append (through variableCount spans) rest 0 (spanWidth * v + j) (omega (arith, length-through spans spanWidth (span_wide (order fs)) 0 variableCount))
-      ∙ through-at spans spanWidth (span_wide (order fs)) 0 variableCount v j l m
+      get_or-append (through variable_count spans) rest 0 (span_width * v + j) (omega (arith, length-through spans span_width (span_wide (order fs)) 0 variable_count))
+      ∙ through-at spans span_width (span_wide (order fs)) 0 variable_count v j l m
 
 -- ---- sets
 

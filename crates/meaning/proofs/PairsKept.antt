@@ -15,10 +15,10 @@ use Rattle.theory.specs.Table.{Richer}
 use Rattle.theory.specs.Pairs.{Pair, pair, is_pair, listed}
 use Rattle.theory.proofs.Lemmas.{and_left, and_right}
 use Rattle.theory.proofs.Verdict.{or_cases}
-use Rattle.meaning.specs.File.{symbolCount, pairCount, aritiesIn, pairsIn, tableIn}
+use Rattle.meaning.specs.File.{symbol_count_lem, pair_count_lem, arities_in, pairs_in, table_in}
 use Rattle.meaning.specs.Refusals.{SoundFile}
 use Rattle.meaning.specs.Tables.{arity_byte, lower_at, higher_at, degree_at, KeptAs, PairsKept, MadeRicher}
-use Rattle.meaning.proofs.Bytes.{pair_in, arity_in}
+use Rattle.meaning.proofs.Bytes.{pair_in_lem, arity_in}
 use Rattle.meaning.proofs.Sound.{passed, length-pairs_in, length-arities_in, sound}
 use Rattle.meaning.proofs.Degrees.{listed_sound, degree_listed, degree_outside}
 
@@ -46,27 +46,27 @@ lists (pair l h d ∷ ps) a b m = go (is_pair l h a b) refl m (lists ps a b)
 -- pair k of the file has these two symbols, and their degree
 record ListedFor (table : List ℕ) (a b : ℕ) : Type 0 where
   k : ℕ
-  inside : k < pairCount table
+  inside : k < pair_count_lem table
   symbols : ((lower_at table k ≡ a) × (higher_at table k ≡ b)) ⊎ ((lower_at table k ≡ b) × (higher_at table k ≡ a))
-  degree : degree_at table k ≡ (tableIn table).deg a b
+  degree : degree_at table k ≡ (table_in table).deg a b
 
-module _ (table : List ℕ) (a b : ℕ) (apart : a ≡ b → ⊥) (near : 0 < (tableIn table).deg a b) where
-  degree_is : (tableIn table).deg a b ≡ listed (pairsIn table) a b
-  unfolding tableIn
-  degree_is = go (ltb a (length (aritiesIn table)) && ltb b (length (aritiesIn table))) (rw (ne_eqb a b apart) at near)
+module _ (table : List ℕ) (a b : ℕ) (apart : a ≡ b → ⊥) (near : 0 < (table_in table).deg a b) where
+  degree_is : (table_in table).deg a b ≡ listed (pairs_in table) a b
+  unfolding table_in
+  degree_is = go (ltb a (length (arities_in table)) && ltb b (length (arities_in table))) (rw (ne_eqb a b apart) at near)
     where
-      go : (t : Bool) → 0 < cond t (listed (pairsIn table) a b) 0 → cond t (cond (eqb a b) 1000 (listed (pairsIn table) a b)) 0 ≡ listed (pairsIn table) a b
+      go : (t : Bool) → 0 < cond t (listed (pairs_in table) a b) 0 → cond t (cond (eqb a b) 1000 (listed (pairs_in table) a b)) 0 ≡ listed (pairs_in table) a b
       go true m = rw (ne_eqb a b apart)
       go false m = absurd (not-suc-le-zero m)
 
   listed_for : ListedFor table a b
   listed_for =
-      let r = lists (pairsIn table) a b (omega (arith, near, degree_is)) in
-      let inside : r.k < pairCount table = omega (arith, r.inside, length-pairs_in table) in
-      let e : pair (lower_at table r.k) (higher_at table r.k) (degree_at table r.k) ≡ pair r.l r.h (listed (pairsIn table) a b) = inv (pair_in table r.k inside) ∙ r.here in
+      let r = lists (pairs_in table) a b (omega (arith, near, degree_is)) in
+      let inside : r.k < pair_count_lem table = omega (arith, r.inside, length-pairs_in table) in
+      let e : pair (lower_at table r.k) (higher_at table r.k) (degree_at table r.k) ≡ pair r.l r.h (listed (pairs_in table) a b) = inv (pair_in_lem table r.k inside) ∙ r.here in
       let l : lower_at table r.k ≡ r.l = cc in
       let h : higher_at table r.k ≡ r.h = cc in
-      let d : degree_at table r.k ≡ listed (pairsIn table) a b = cc in
+      let d : degree_at table r.k ≡ listed (pairs_in table) a b = cc in
       record { k = r.k; inside = inside; symbols = either r.l r.h l h (or_cases _ _ r.symbols); degree = d ∙ inv degree_is }
     where
       either : (l h : ℕ) {x y : ℕ} → x ≡ l → y ≡ h → ((eqb a l && eqb b h) ≡ true) ⊎ ((eqb a h && eqb b l) ≡ true) → ((x ≡ a) × (y ≡ b)) ⊎ ((x ≡ b) × (y ≡ a))
@@ -76,41 +76,41 @@ module _ (table : List ℕ) (a b : ℕ) (apart : a ≡ b → ⊥) (near : 0 < (t
 -- ---- what is known of a pair of a table that is not refused
 
 module _ (table : List ℕ) (s : SoundFile table) where
-  pair_degree : (k : ℕ) → k < pairCount table → (tableIn table).deg (lower_at table k) (higher_at table k) ≡ degree_at table k
-  pair_degree k m = degree_listed table s k _ _ _ m (pair_in table k m)
+  pair_degree : (k : ℕ) → k < pair_count_lem table → (table_in table).deg (lower_at table k) (higher_at table k) ≡ degree_at table k
+  pair_degree k m = degree_listed table s k _ _ _ m (pair_in_lem table k m)
 
-  pair_sound : (k : ℕ) → k < pairCount table → (lower_at table k < higher_at table k) × (0 < degree_at table k)
-  pair_sound k m = let q = listed_sound table s k _ _ _ m (pair_in table k m) in (q.0, q.3)
+  pair_sound : (k : ℕ) → k < pair_count_lem table → (lower_at table k < higher_at table k) × (0 < degree_at table k)
+  pair_sound k m = let q = listed_sound table s k _ _ _ m (pair_in_lem table k m) in (q.0, q.3)
 
-  size_is : (tableIn table).size ≡ symbolCount table
-  unfolding tableIn
+  size_is : (table_in table).size ≡ symbol_count_lem table
+  unfolding table_in
   size_is = length-arities_in table (passed table s)
 
 -- ---- two tables
 
 module _ (table₁ table₂ : List ℕ) (s₁ : SoundFile table₁) (s₂ : SoundFile table₂) where
   abbrev deg₁ : ℕ → ℕ → ℕ
-  deg₁ = (tableIn table₁).deg
+  deg₁ = (table_in table₁).deg
 
   abbrev deg₂ : ℕ → ℕ → ℕ
-  deg₂ = (tableIn table₂).deg
+  deg₂ = (table_in table₂).deg
 
   -- a file that keeps every pair is richer
   module _ (kept : PairsKept table₁ table₂) where
-    same_arity : (a : ℕ) → (tableIn table₁).arity a ≡ (tableIn table₂).arity a
-    unfolding tableIn
-    same_arity a = go (dec_lt a (symbolCount table₁))
+    same_arity : (a : ℕ) → (table_in table₁).arity a ≡ (table_in table₂).arity a
+    unfolding table_in
+    same_arity a = go (dec_lt a (symbol_count_lem table₁))
       where
-        go : Dec (a < symbolCount table₁) → get_or (aritiesIn table₁) a 0 ≡ get_or (aritiesIn table₂) a 0
+        go : Dec (a < symbol_count_lem table₁) → get_or (arities_in table₁) a 0 ≡ get_or (arities_in table₂) a 0
         go (yes l) = arity_in table₁ a l ∙ kept.same_arities a l ∙ inv (arity_in table₂ a (omega (arith, kept.as_many)))
         go (no m) =
-            get_or-eq_default (aritiesIn table₁) 0 (omega (arith, length-arities_in table₁ (passed table₁ s₁)))
-            ∙ inv (get_or-eq_default (aritiesIn table₂) 0 (omega (arith, length-arities_in table₂ (passed table₂ s₂), kept.as_many)))
+            get_or-eq_default (arities_in table₁) 0 (omega (arith, length-arities_in table₁ (passed table₁ s₁)))
+            ∙ inv (get_or-eq_default (arities_in table₂) 0 (omega (arith, length-arities_in table₂ (passed table₂ s₂), kept.as_many)))
 
     of_itself : (a : ℕ) → deg₁ a a ≤ deg₂ a a
-    of_itself a = go (dec_lt a (symbolCount table₁))
+    of_itself a = go (dec_lt a (symbol_count_lem table₁))
       where
-        go : Dec (a < symbolCount table₁) → deg₁ a a ≤ deg₂ a a
+        go : Dec (a < symbol_count_lem table₁) → deg₁ a a ≤ deg₂ a a
         go (yes l) = omega (arith, (sound table₁ s₁).lawful.top a a, (sound table₂ s₂).lawful.itself a (omega (arith, size_is table₂ s₂, kept.as_many)))
         go (no m) = omega (arith, degree_outside table₁ s₁ a a (inl (omega arith)))
 
@@ -125,7 +125,7 @@ module _ (table₁ table₂ : List ℕ) (s₁ : SoundFile table₁) (s₂ : Soun
         go j l e f d (inl z) = omega (arith, l, rw (e ∙ z.0, f ∙ z.1) at d)
         go j l e f d (inr z) = omega (arith, l, rw (e ∙ z.0, f ∙ z.1) at d, (sound table₂ s₂).lawful.either a b)
 
-    richer : Richer (tableIn table₁) (tableIn table₂)
+    richer : Richer (table_in table₁) (table_in table₂)
     richer =
         record { same_size = size_is table₁ s₁ ∙ kept.as_many ∙ inv (size_is table₂ s₂); same_arity = same_arity; not_lower = λ a b. go a b (ℕ_discrete a b) (dec_lt 0 (deg₁ a b)) }
       where
@@ -135,8 +135,8 @@ module _ (table₁ table₂ : List ℕ) (s₁ : SoundFile table₁) (s₂ : Soun
         go a b (no n) (no m) = omega arith
 
   -- .. and one that is richer keeps every pair
-  module _ (more : Richer (tableIn table₁) (tableIn table₂)) where
-    still_listed : (k : ℕ) → k < pairCount table₁ → (j : ℕ) × (j < pairCount table₂) × KeptAs table₁ table₂ k j
+  module _ (more : Richer (table_in table₁) (table_in table₂)) where
+    still_listed : (k : ℕ) → k < pair_count_lem table₁ → (j : ℕ) × (j < pair_count_lem table₂) × KeptAs table₁ table₂ k j
     still_listed k m =
         let l = lower_at table₁ k in
         let h = higher_at table₁ k in
@@ -146,17 +146,17 @@ module _ (table₁ table₂ : List ℕ) (s₁ : SoundFile table₁) (s₂ : Soun
         let q = listed_for table₂ l h (λ z. omega (arith, o.0)) (omega (arith, o.1)) in
         go q.k q.inside (omega (arith, q.degree)) (pair_sound table₂ s₂ q.k q.inside).0 o.0 q.symbols
       where
-        go : (j : ℕ) → j < pairCount table₂ → degree_at table₁ k ≤ degree_at table₂ j → lower_at table₂ j < higher_at table₂ j → lower_at table₁ k < higher_at table₁ k
+        go : (j : ℕ) → j < pair_count_lem table₂ → degree_at table₁ k ≤ degree_at table₂ j → lower_at table₂ j < higher_at table₂ j → lower_at table₁ k < higher_at table₁ k
             → ((lower_at table₂ j ≡ lower_at table₁ k) × (higher_at table₂ j ≡ higher_at table₁ k)) ⊎ ((lower_at table₂ j ≡ higher_at table₁ k) × (higher_at table₂ j ≡ lower_at table₁ k))
-            → (i : ℕ) × (i < pairCount table₂) × KeptAs table₁ table₂ k i
+            → (i : ℕ) × (i < pair_count_lem table₂) × KeptAs table₁ table₂ k i
         go j n d r₂ r₁ (inl z) = (j, n, record { same_lower = inv z.0; same_higher = inv z.1; not_lower = d })
         go j n d r₂ r₁ (inr z) = absurd (omega (arith, z.0, z.1))
 
-    as_many : symbolCount table₁ ≡ symbolCount table₂
+    as_many : symbol_count_lem table₁ ≡ symbol_count_lem table₂
     as_many = inv (size_is table₁ s₁) ∙ more.same_size ∙ size_is table₂ s₂
 
-    same_byte : (a : ℕ) → a < symbolCount table₁ → arity_byte table₁ a ≡ arity_byte table₂ a
-    unfolding tableIn
+    same_byte : (a : ℕ) → a < symbol_count_lem table₁ → arity_byte table₁ a ≡ arity_byte table₂ a
+    unfolding table_in
     same_byte a l = inv (arity_in table₁ a l) ∙ more.same_arity a ∙ arity_in table₂ a (omega (arith, as_many))
 
     pairs_kept : PairsKept table₁ table₂

@@ -19,9 +19,9 @@ use Rattle.theory.specs.Read.{ends, walk, Reading, whole, faulty, reading, Fine,
 use Rattle.theory.specs.Decode.{pattern_of, term_of}
 use Rattle.theory.proofs.Reading.{walk_enc}
 use Rattle.theory.proofs.Decoding.{not_long, read_whole, whole_of}
-use Rattle.meaning.specs.File.{tableIn}
-use Rattle.meaning.specs.Refusals.{Refusal, refusal, Row, row, first, fault_of, Given, row6, row7, tableRows, SoundFile}
-use Rattle.meaning.specs.Calls.{part, part_to, unless_part, subtermRows, subterm, the_first, the_second_lem, neither, unless_nearer, nearerRows, nearer}
+use Rattle.meaning.specs.File.{table_in}
+use Rattle.meaning.specs.Refusals.{Refusal, refusal, Row, row, first, fault_of, Given, row6, row7, table_rows, SoundFile}
+use Rattle.meaning.specs.Calls.{part, part_to, unless_part, subterm_rows, subterm, the_first, the_second_lem, neither, unless_nearer, nearer_rows, nearer}
 use Rattle.meaning.specs.Demands.{WritesPattern, Only}
 use Rattle.meaning.specs.Parts.{IsTerm, TermLists, subterm_at, subterm_in, SubtermIs, Subterms, NearerIs, Nearest}
 use Rattle.meaning.proofs.First.{first_given, given_first, all_silent, append-none}
@@ -108,7 +108,7 @@ read_first n (faulty i) = ((λ e. absurd (some-ne-none _ e)), (λ e. let z : ◌
 pub terms : (table : List ℕ) → SoundFile table → TermLists table
 unfolding row6 row7
 terms table e =
-    let T = tableIn table in
+    let T = table_in table in
     let small : T.size ≤ 32768 = omega (arith, (sound table e).small) in
     record {
       six = λ vars list. both (read_first 6 (reading T vars list)) (is_term_lem T small vars list);
@@ -120,8 +120,8 @@ terms table e =
 
 -- ---- the subterm
 
-subterm-found : (table term : List ℕ) (i : ℕ) → first (subtermRows table term) ≡ none → i < length term → SubtermIs table term i (subterm table term i)
-unfolding subterm subtermRows
+subterm-found : (table term : List ℕ) (i : ℕ) → first (subterm_rows table term) ≡ none → i < length term → SubtermIs table term i (subterm table term i)
+unfolding subterm subterm_rows
 subterm-found table term i e l =
     record {
       p = pattern_of T term;
@@ -133,10 +133,10 @@ subterm-found table term i e l =
     }
   where
     T : Table
-    T = tableIn table
+    T = table_in table
 
     rows : (SoundFile table) × (first (row6 T true term ∷ []) ≡ none)
-    rows = append-none (tableRows table) (row6 T true term ∷ []) e
+    rows = append-none (table_rows table) (row6 T true term ∷ []) e
 
     small : T.size ≤ 32768
     small = omega (arith, (sound table rows.0).small)
@@ -168,8 +168,8 @@ unfolding subterm
 subterms =
     record {
       found = subterm-found;
-      refused_part = λ table term i n place g. ap (λ o. unless_part o (cond (ltb i (length term)) (part_to i (walk (tableIn table) true term 64 i)) (part 0 0))) (given_first (subtermRows table term) n place g);
-      outside_part = λ table term i l. rw (le-ltb i (length term) l) (empty (first (subtermRows table term)));
+      refused_part = λ table term i n place g. ap (λ o. unless_part o (cond (ltb i (length term)) (part_to i (walk (table_in table) true term 64 i)) (part 0 0))) (given_first (subterm_rows table term) n place g);
+      outside_part = λ table term i l. rw (le-ltb i (length term) l) (empty (first (subterm_rows table term)));
     }
   where
     empty : (o : Option Refusal) → unless_part o (part 0 0) ≡ part 0 0
@@ -185,12 +185,12 @@ chosen a b = go (dec_lt a b)
     go (yes l) = rw (lt-ltb a b l) (((λ e. let z : ◌≡◌ {A = ℕ} 0 1 = cc in absurd (omega arith)), (λ m. absurd (omega arith))), ((λ e. l), (λ m. refl)))
     go (no l) = rw (le-ltb a b (omega arith)) (((λ e. omega arith), (λ m. refl)), ((λ e. let z : ◌≡◌ {A = ℕ} 0 1 = cc in absurd (omega arith)), (λ m. absurd (omega arith))))
 
-nearer-found : (table heading one two : List ℕ) → first (nearerRows table heading one two) ≡ none → NearerIs table heading one two (nearer table heading one two)
-unfolding nearer nearerRows
+nearer-found : (table heading one two : List ℕ) → first (nearer_rows table heading one two) ≡ none → NearerIs table heading one two (nearer table heading one two)
+unfolding nearer nearer_rows
 nearer-found table heading one two e =
-    let T = tableIn table in
+    let T = table_in table in
     let rest = row7 T heading ∷ row7 T one ∷ row7 T two ∷ [] in
-    let r = append-none (tableRows table) rest e in
+    let r = append-none (table_rows table) rest e in
     let s = all_silent rest r.1 in
     let small : T.size ≤ 32768 = omega (arith, (sound table r.0).small) in
     let c = chosen (degree T (term_of T heading) (term_of T one)) (degree T (term_of T heading) (term_of T two)) in
@@ -216,9 +216,9 @@ nearest =
     record {
       found = nearer-found;
       neither_if = λ table heading one two.
-          let T = tableIn table in
+          let T = table_in table in
           let b = ltb (degree T (term_of T heading) (term_of T one)) (degree T (term_of T heading) (term_of T two)) in
-          ((λ e. refused_by (nearerRows table heading one two) b (first (nearerRows table heading one two)) refl e), (λ g. ap (λ o. unless_nearer o (cond b the_second_lem the_first)) (given_first (nearerRows table heading one two) g.0 g.1 g.2)));
+          ((λ e. refused_by (nearer_rows table heading one two) b (first (nearer_rows table heading one two)) refl e), (λ g. ap (λ o. unless_nearer o (cond b the_second_lem the_first)) (given_first (nearer_rows table heading one two) g.0 g.1 g.2)));
     }
   where
     refused_by : (rows : List Row) (b : Bool) (o : Option Refusal) → first rows ≡ o → unless_nearer o (cond b the_second_lem the_first) ≡ neither → (n : ℕ) × (place : ℕ) × Given rows n place

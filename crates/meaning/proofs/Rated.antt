@@ -15,7 +15,7 @@ use Rattle.theory.specs.Faces.{Face, meets, binds}
 use Rattle.theory.specs.Match.{shared, in_set, lowest_at_lem, highest_at, brings, lowest_of_lem, highest_of}
 use Rattle.theory.proofs.Lemmas.{least_top, least-append, lowest_top}
 use Rattle.meaning.specs.Packing.{variables, without, firsts, order}
-use Rattle.meaning.specs.Search.{symbolWorth}
+use Rattle.meaning.specs.Search.{symbol_worth}
 
 -- ---- one more
 
@@ -25,8 +25,8 @@ module _ {A : Type 0} (f : A → ℕ) where
   least_last xs x = omega (arith, least-append f xs (x ∷ []), least_top f xs)
 
 -- LAW: a variable's node leaves what the symbols bring
-pub symbols_variable : (T : Table) (fs : List Face) (v : ℕ) (t : Term) → least (symbolWorth T) (fs ++ (binds v t ∷ [])) ≡ least (symbolWorth T) fs
-symbols_variable T fs v t = omega (arith, least_last (symbolWorth T) fs (binds v t), least_top (symbolWorth T) fs)
+pub symbols_variable : (T : Table) (fs : List Face) (v : ℕ) (t : Term) → least (symbol_worth T) (fs ++ (binds v t ∷ [])) ≡ least (symbol_worth T) fs
+symbols_variable T fs v t = omega (arith, least_last (symbol_worth T) fs (binds v t), least_top (symbol_worth T) fs)
 
 -- LAW: the least and the most, with one more number
 pub lowest_last : (n : ℕ) (f : ℕ → ℕ) → lowest (n + 1) f ≡ min (lowest n f) (f n)
@@ -77,11 +77,11 @@ module _ (f : ℕ → ℕ) where
 
 module _ (T : Table) (own : ℕ → ℕ) where
   -- symbols and variables apart
-  least_apart : (fs : List Face) → least (brings T own) fs ≡ min (least (symbolWorth T) fs) (least own (variables fs))
+  least_apart : (fs : List Face) → least (brings T own) fs ≡ min (least (symbol_worth T) fs) (least own (variables fs))
   least_apart [] = refl
   least_apart (meets f g ∷ fs) = omega (arith, least_apart fs)
-  least_apart (binds v t ∷ fs) = omega (arith, least_apart fs, least_top (symbolWorth T) fs)
+  least_apart (binds v t ∷ fs) = omega (arith, least_apart fs, least_top (symbol_worth T) fs)
 
   -- LAW: the least that a node brings
-  pub least-brings : (fs : List Face) → least (brings T own) fs ≡ min (least (symbolWorth T) fs) (least own (order fs))
+  pub least-brings : (fs : List Face) → least (brings T own) fs ≡ min (least (symbol_worth T) fs) (least own (order fs))
   least-brings fs = omega (arith, least_apart fs, least-firsts own (variables fs))

@@ -23,12 +23,12 @@ use Rattle.theory.proofs.Matchers.{none_clear}
 use Rattle.theory.proofs.Present.{present}
 use Rattle.theory.proofs.Verdict.{stands_small}
 use Rattle.theory.proofs.Corollaries.{cut_low, low_high, high_top, no_variables}
-use Rattle.meaning.specs.Limits.{setRoom}
-use Rattle.meaning.specs.File.{tableIn}
+use Rattle.meaning.specs.Limits.{set_room}
+use Rattle.meaning.specs.File.{table_in}
 use Rattle.meaning.specs.Refusals.{first}
 use Rattle.meaning.specs.Packing.{order, packed_spans, packed_sets, sets_of}
-use Rattle.meaning.specs.Calls.{gives, degrees, zeros, facesIn, match_rows, matched, later_spans, later_sets, matchCall}
-use Rattle.meaning.specs.Buffers.{firstPosition, positionCount, holds}
+use Rattle.meaning.specs.Calls.{gives, degrees, zeros, faces_in, match_rows, matched, later_spans, later_sets, match_call}
+use Rattle.meaning.specs.Buffers.{first_position_lem, position_count_lem, holds}
 use Rattle.meaning.specs.Demands.{Accepted}
 use Rattle.meaning.specs.Matching.{SetsAndDegrees}
 use Rattle.meaning.proofs.First.{unless_gives}
@@ -46,30 +46,30 @@ members T c cut ts k s = (
 )
 
 -- what is held at a position of a packed variable
-held_at : (T : Table) (c : ℕ) (fs : List Face) (v : ℕ) (spans sets : List ℕ) → Packed T c fs v spans sets → (k : ℕ) → k < positionCount spans v → (s : ℕ) → s < setRoom
-    → holds sets (firstPosition spans v + k) s ≡ in_set T c (facing v fs) k s
+held_at : (T : Table) (c : ℕ) (fs : List Face) (v : ℕ) (spans sets : List ℕ) → Packed T c fs v spans sets → (k : ℕ) → k < position_count_lem spans v → (s : ℕ) → s < set_room
+    → holds sets (first_position_lem spans v + k) s ≡ in_set T c (facing v fs) k s
 held_at T c fs v spans sets b k l s m =
-    b.held (firstPosition spans v + k) s m
+    b.held (first_position_lem spans v + k) s m
     ∙ ap (λ i. get_or (sets_of T c fs (order fs)) (i + k) (λ s. false) s) b.starts
     ∙ ap (λ (set : ℕ → Bool). set s) (set_at T c fs (order fs) v k b.standing (omega (arith, b.counts)))
 
 module _ (table pattern heading : List ℕ) (cut : ℕ) (spans sets : List ℕ) (a : Accepted table pattern heading cut spans sets) where
   abbrev T : Table
-  T = tableIn table
+  T = table_in table
 
   abbrev p : Pattern
-  p = pattern_of (tableIn table) pattern
+  p = pattern_of (table_in table) pattern
 
   abbrev h : Term
-  h = term_of (tableIn table) heading
+  h = term_of (table_in table) heading
 
   abbrev fs : List Face
-  fs = faces (pattern_of (tableIn table) pattern) (term_of (tableIn table) heading)
+  fs = faces (pattern_of (table_in table) pattern) (term_of (table_in table) heading)
 
   -- THEOREM: the sets and the degrees of an answered match
   pub sentences : (low high : ℕ) → matched table pattern heading cut spans sets ≡ gives (degrees low high)
-      → SetsAndDegrees T cut p h (matchCall table pattern heading cut spans sets) low high
-  unfolding matched facesIn
+      → SetsAndDegrees T cut p h (match_call table pattern heading cut spans sets) low high
+  unfolding matched faces_in
   sentences low high g =
       record {
         sets = λ v s k l x m. rw (held v s k l x m) (members T cut r.cut_top (facing v fs) k x);
@@ -100,8 +100,8 @@ module _ (table pattern heading : List ℕ) (cut : ℕ) (spans sets : List ℕ) 
       oh : Over T h
       oh = r.heading_is.holds.over
 
-      held : (v : ℕ) → stands v p ≡ true → (k : ℕ) → k < positionCount (later_spans table pattern heading cut spans sets) v → (s : ℕ) → s < setRoom
-          → holds (later_sets table pattern heading cut spans sets) (firstPosition (later_spans table pattern heading cut spans sets) v + k) s ≡ in_set T cut (facing v fs) k s
+      held : (v : ℕ) → stands v p ≡ true → (k : ℕ) → k < position_count_lem (later_spans table pattern heading cut spans sets) v → (s : ℕ) → s < set_room
+          → holds (later_sets table pattern heading cut spans sets) (first_position_lem (later_spans table pattern heading cut spans sets) v + k) s ≡ in_set T cut (facing v fs) k s
       held v s =
           let m = length spans - length (packed_spans T cut fs) in
           let n = length sets - length (packed_sets T cut fs) in

@@ -6,10 +6,10 @@ use Prim.Native.Nat.{ℕ, zero, suc, ◌≤◌, ◌<◌}
 use native.Mathlib.Omega.{arith}
 use lib.ListN.{length, get_or}
 use borrow.Author.Tests.{lt-ltb, le-ltb, eq-eqb}
-use Rattle.theory.specs.Pairs.{Pair, pair, listedTop, SoundPair}
-use Rattle.meaning.specs.Limits.{mostSymbols, mostPairs, most_arguments}
-use Rattle.meaning.specs.File.{symbolCount, pairCount, arities_offset, pairs_offset, total_field, pairs_at_lem, total}
-use Rattle.meaning.specs.Refusals.{at0, outside, unsound, unordered, badPair, row1_short, row1_offsets, row2, row3, row4, row5, row8-output}
+use Rattle.theory.specs.Pairs.{Pair, pair, listed_top, SoundPair}
+use Rattle.meaning.specs.Limits.{most_symbols, most_pairs, most_arguments}
+use Rattle.meaning.specs.File.{symbol_count_lem, pair_count_lem, arities_offset, pairs_offset, total_field, pairs_at_lem, total}
+use Rattle.meaning.specs.Refusals.{at0, outside, unsound, unordered, bad_pair_lem, row1_short, row1_offsets, row2, row3, row4, row5, row8-output}
 use Rattle.meaning.proofs.First.{Silent, none_below}
 use Rattle.meaning.proofs.Sound.{Offsets}
 use Rattle.meaning.proofs.Rising.{After, after_rises}
@@ -24,17 +24,17 @@ pub silent_short : (file : List ℕ) → 10 ≤ length file → Silent (row1_sho
 unfolding row1_short
 silent_short file l = rw (le-ltb (length file) 10 l)
 
-pub silent_counts : (s p : ℕ) → 1 ≤ s → s ≤ mostSymbols → p ≤ mostPairs → Silent (row2 s p)
+pub silent_counts : (s p : ℕ) → 1 ≤ s → s ≤ most_symbols → p ≤ most_pairs → Silent (row2 s p)
 unfolding row2
-silent_counts s p a b c = ap₂ (λ x y. at0 (x || y)) (inside_false 1 mostSymbols s a b) (inside_false 0 mostPairs p (omega arith) c)
+silent_counts s p a b c = ap₂ (λ x y. at0 (x || y)) (inside_false 1 most_symbols s a b) (inside_false 0 most_pairs p (omega arith) c)
 
 pub silent_offsets : (file : List ℕ) → Offsets file → Silent (row1_offsets file)
 unfolding row1_offsets
 silent_offsets file o =
     rw (
       eq-eqb (arities_offset file) 10 o.of_arities,
-      eq-eqb (pairs_offset file) (pairs_at_lem (symbolCount file)) o.of_pairs,
-      eq-eqb (total_field file) (total (symbolCount file) (pairCount file)) o.of_total,
+      eq-eqb (pairs_offset file) (pairs_at_lem (symbol_count_lem file)) o.of_pairs,
+      eq-eqb (total_field file) (total (symbol_count_lem file) (pair_count_lem file)) o.of_total,
       eq-eqb (total_field file) (length file) o.of_length,
     )
 
@@ -50,7 +50,7 @@ sound_false arities (pair l h d) s =
       lt-ltb l h s.0,
       lt-ltb h (length arities) s.1,
       eq-eqb (get_or arities l 0) (get_or arities h 0) s.2,
-      inside_false 1 listedTop d s.3 s.4,
+      inside_false 1 listed_top d s.3 s.4,
     )
 
 module _ (arities : List ℕ) (pairs : List Pair) (sound : (k : ℕ) → k < length pairs → SoundPair arities (get_or pairs k (pair 0 0 0)))
@@ -61,7 +61,7 @@ module _ (arities : List ℕ) (pairs : List Pair) (sound : (k : ℕ) → k < len
 
   pub silent_pairs : Silent (row4 arities pairs)
   unfolding row4
-  silent_pairs = none_below (badPair arities pairs) (length pairs) (λ k l. rw (sound_false arities (get_or pairs k (pair 0 0 0)) (sound k l)) (ordered k l))
+  silent_pairs = none_below (bad_pair_lem arities pairs) (length pairs) (λ k l. rw (sound_false arities (get_or pairs k (pair 0 0 0)) (sound k l)) (ordered k l))
 
 -- ---- cut and room
 

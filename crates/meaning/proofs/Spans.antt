@@ -19,12 +19,12 @@ use Rattle.theory.proofs.Decoding.{fine_over}
 use Rattle.theory.proofs.Matchers.{Clear, none_clear}
 use Rattle.theory.proofs.Present.{present}
 use Rattle.theory.proofs.Verdict.{stands_small}
-use Rattle.meaning.specs.Limits.{variableCount, spanWidth}
-use Rattle.meaning.specs.File.{tableIn}
+use Rattle.meaning.specs.Limits.{variable_count, span_width}
+use Rattle.meaning.specs.File.{table_in}
 use Rattle.meaning.specs.Refusals.{first}
 use Rattle.meaning.specs.Packing.{firsts, order, count_of, start_in, among, span_in, packed_spans}
-use Rattle.meaning.specs.Calls.{gives, Degrees, degrees, zeros, facesIn, inputRows, search_rows, match_rows, matched, later_spans, matchCall}
-use Rattle.meaning.specs.Buffers.{firstPosition, positionCount, ownLowest, ownHighest}
+use Rattle.meaning.specs.Calls.{gives, Degrees, degrees, zeros, faces_in, input_rows, search_rows, match_rows, matched, later_spans, match_call}
+use Rattle.meaning.specs.Buffers.{first_position_lem, position_count_lem, own_lowest_lem, own_highest_lem}
 use Rattle.meaning.specs.Demands.{Accepted}
 use Rattle.meaning.specs.Matching.{standing, VariableDegrees, PackedInOrder}
 use Rattle.meaning.proofs.First.{append-none, unless_gives}
@@ -50,16 +50,16 @@ start_counts f g v (x ∷ xs) e =
 
 module _ (table pattern heading : List ℕ) (cut : ℕ) (spans sets : List ℕ) where
   abbrev T : Table
-  T = tableIn table
+  T = table_in table
 
   abbrev p : Pattern
-  p = pattern_of (tableIn table) pattern
+  p = pattern_of (table_in table) pattern
 
   abbrev h : Term
-  h = term_of (tableIn table) heading
+  h = term_of (table_in table) heading
 
   abbrev fs : List Face
-  fs = faces (pattern_of (tableIn table) pattern) (term_of (tableIn table) heading)
+  fs = faces (pattern_of (table_in table) pattern) (term_of (table_in table) heading)
 
   abbrev left : List ℕ
   left = later_spans table pattern heading cut spans sets
@@ -72,33 +72,33 @@ module _ (table pattern heading : List ℕ) (cut : ℕ) (spans sets : List ℕ) 
   module _ (e : first (match_rows table pattern heading cut spans sets) ≡ none) where
     pub accepted : Accepted table pattern heading cut spans sets
     unfolding match_rows
-    accepted = (append-none (inputRows table pattern heading cut spans sets) (search_rows table pattern heading cut) e).0
+    accepted = (append-none (input_rows table pattern heading cut spans sets) (search_rows table pattern heading cut) e).0
 
     r : Ready table pattern heading cut
     r = ready table pattern heading cut spans sets accepted
 
     -- the numbers of a variable
-    number_read : (v j : ℕ) → v < variableCount → j < spanWidth → get_or left (spanWidth * v + j) 0 ≡ get_or (span_in T cut fs (order fs) v) j 0
+    number_read : (v j : ℕ) → v < variable_count → j < span_width → get_or left (span_width * v + j) 0 ≡ get_or (span_in T cut fs (order fs) v) j 0
     number_read v j l m = rw (spans_are table pattern heading cut spans sets e) (span_at T cut fs (zeros (length spans - length (packed_spans T cut fs))) v j l m)
 
-    first_read : (v : ℕ) → v < variableCount → firstPosition left v ≡ get_or (span_in T cut fs (order fs) v) 0 0
-    first_read v l = let z : spanWidth * v ≡ spanWidth * v + 0 = omega arith in ap (λ i. get_or left i 0) z ∙ number_read v 0 l (omega arith)
+    first_read : (v : ℕ) → v < variable_count → first_position_lem left v ≡ get_or (span_in T cut fs (order fs) v) 0 0
+    first_read v l = let z : span_width * v ≡ span_width * v + 0 = omega arith in ap (λ i. get_or left i 0) z ∙ number_read v 0 l (omega arith)
 
-    pub packed_small : (v : ℕ) → among v (order fs) ≡ true → v < variableCount
+    pub packed_small : (v : ℕ) → among v (order fs) ≡ true → v < variable_count
     packed_small v m = stands_small T v p r.pattern_is.holds.fine (packed_stands v p h m)
 
     -- LAW: of a variable that is packed
-    pub packed_read : (v : ℕ) → among v (order fs) ≡ true → (firstPosition left v ≡ start_in (count_of fs) v (order fs)) × (positionCount left v ≡ count_of fs v)
+    pub packed_read : (v : ℕ) → among v (order fs) ≡ true → (first_position_lem left v ≡ start_in (count_of fs) v (order fs)) × (position_count_lem left v ≡ count_of fs v)
     packed_read v m =
         let l = packed_small v m in
         (first_read v l ∙ rw m, number_read v 1 l (omega arith) ∙ rw m)
 
-    own_read : (v : ℕ) → among v (order fs) ≡ true → (ownLowest left v ≡ lowest_for T cut (facing v fs)) × (ownHighest left v ≡ highest_for T cut (facing v fs))
+    own_read : (v : ℕ) → among v (order fs) ≡ true → (own_lowest_lem left v ≡ lowest_for T cut (facing v fs)) × (own_highest_lem left v ≡ highest_for T cut (facing v fs))
     own_read v m =
         let l = packed_small v m in
         (number_read v 2 l (omega arith) ∙ rw m, number_read v 3 l (omega arith) ∙ rw m)
 
-    absent : (v : ℕ) → v < variableCount → stands v p ≡ false → (firstPosition left v ≡ 0) × (positionCount left v ≡ 0) × (ownLowest left v ≡ 0) × (ownHighest left v ≡ 0)
+    absent : (v : ℕ) → v < variable_count → stands v p ≡ false → (first_position_lem left v ≡ 0) × (position_count_lem left v ≡ 0) × (own_lowest_lem left v ≡ 0) × (own_highest_lem left v ≡ 0)
     absent v l s =
         let m = absent_order v p h s in
         (first_read v l ∙ rw m, number_read v 1 l (omega arith) ∙ rw m, number_read v 2 l (omega arith) ∙ rw m, number_read v 3 l (omega arith) ∙ rw m)
@@ -119,26 +119,26 @@ module _ (table pattern heading : List ℕ) (cut : ℕ) (spans sets : List ℕ) 
     pub in_order : order fs ≡ firsts (standing p)
     in_order = ap firsts (variables_standing T r.lawful cut r.positive p h op r.heading_is.holds.over clear)
 
-    starts : (v : ℕ) → stands v p ≡ true → firstPosition left v ≡ start_in (positionCount left) v (firsts (standing p))
+    starts : (v : ℕ) → stands v p ≡ true → first_position_lem left v ≡ start_in (position_count_lem left) v (firsts (standing p))
     starts v s =
         (packed_read v (stands_packed v s)).0
-        ∙ start_counts (count_of fs) (positionCount left) v (order fs) (λ w m. inv (packed_read w m).1)
-        ∙ ap (start_in (positionCount left) v) in_order
+        ∙ start_counts (count_of fs) (position_count_lem left) v (order fs) (λ w m. inv (packed_read w m).1)
+        ∙ ap (start_in (position_count_lem left) v) in_order
 
     -- THEOREM: where an answered match packs its variables
-    pub packed_in_order : PackedInOrder p (matchCall table pattern heading cut spans sets)
+    pub packed_in_order : PackedInOrder p (match_call table pattern heading cut spans sets)
     packed_in_order = record { absent = absent; starts = starts }
 
     -- its degrees are the least of what its nodes bring, and those of each variable are as one reads them
-    own_degrees : VariableDegrees T cut p h (matchCall table pattern heading cut spans sets) (lowest_of_lem T cut fs) (highest_of T cut fs)
+    own_degrees : VariableDegrees T cut p h (match_call table pattern heading cut spans sets) (lowest_of_lem T cut fs) (highest_of T cut fs)
     own_degrees = degrees_read T r.lawful p h op r.heading_is.holds.over cut r.positive r.cut_top found _ (λ v s. own_read v (stands_packed v s))
 
   -- THEOREM: the degrees of each variable of an answered match
   pub variable_degrees : (low high : ℕ) → matched table pattern heading cut spans sets ≡ gives (degrees low high)
-      → VariableDegrees T cut p h (matchCall table pattern heading cut spans sets) low high
-  unfolding matched facesIn
+      → VariableDegrees T cut p h (match_call table pattern heading cut spans sets) low high
+  unfolding matched faces_in
   variable_degrees low high g =
       let u = unless_gives (first (match_rows table pattern heading cut spans sets)) (degrees (lowest_of_lem T cut fs) (highest_of T cut fs)) (degrees low high) g in
       let same : (lowest_of_lem T cut fs ≡ low) × (highest_of T cut fs ≡ high) = let q = u.1 in (cc, cc) in
-      subst (λ n. VariableDegrees T cut p h (matchCall table pattern heading cut spans sets) low n) same.1
-      (subst (λ n. VariableDegrees T cut p h (matchCall table pattern heading cut spans sets) n (highest_of T cut fs)) same.0 (own_degrees u.0))
+      subst (λ n. VariableDegrees T cut p h (match_call table pattern heading cut spans sets) low n) same.1
+      (subst (λ n. VariableDegrees T cut p h (match_call table pattern heading cut spans sets) n (highest_of T cut fs)) same.0 (own_degrees u.0))

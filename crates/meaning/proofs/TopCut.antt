@@ -21,11 +21,11 @@ use Rattle.theory.proofs.Matchers.{reach_worths, worths_clear}
 use Rattle.theory.proofs.Present.{present}
 use Rattle.theory.proofs.More.{degree_itself}
 use Rattle.theory.proofs.Identity.{Ground, degree_identity, matcher_identity, enc_ground, all_symbols, first_unlike}
-use Rattle.meaning.specs.Limits.{setRoom}
-use Rattle.meaning.specs.File.{tableIn}
-use Rattle.meaning.specs.Refusals.{first, tableRows, SoundFile}
+use Rattle.meaning.specs.Limits.{set_room}
+use Rattle.meaning.specs.File.{table_in}
+use Rattle.meaning.specs.Refusals.{first, table_rows, SoundFile}
 use Rattle.meaning.specs.Calls.{refused, gives, degree_rows, heading_degree, Degrees, degrees, Matched}
-use Rattle.meaning.specs.Buffers.{firstPosition, positionCount, holds, DrawnFrom}
+use Rattle.meaning.specs.Buffers.{first_position_lem, position_count_lem, holds, DrawnFrom}
 use Rattle.meaning.specs.Demands.{WritesTerm, WritesPattern, Demand2-degree, Found, Decides}
 use Rattle.meaning.specs.Tables.{SoundTable}
 use Rattle.meaning.specs.Matching.{Reasons, SetsAndDegrees}
@@ -49,10 +49,10 @@ unfolding degree_rows
 same_heading table one two e = (there, back)
   where
     T : Table
-    T = tableIn table
+    T = table_in table
 
     s : SoundTable table
-    s = sound table (append-none (tableRows table) _ e).0
+    s = sound table (append-none (table_rows table) _ e).0
 
     q : Demand2-degree table one two (heading_degree table one two)
     q = demand2_degree table one two e
@@ -67,7 +67,7 @@ same_heading table one two e = (there, back)
         let same : q.t ≡ q.u = q.writes_two.only q.t (subst (λ l. WritesTerm T l q.t) g q.writes_one.holds) in
         q.published ∙ ap gives (ap (degree T q.t) (inv same) ∙ degree_itself T s.lawful q.t q.writes_one.holds.over)
 
-module _ (T : Table) (L : Lawful T) (own : OnlyItself T) (small : T.size ≤ setRoom) (pattern heading : List ℕ)
+module _ (T : Table) (L : Lawful T) (own : OnlyItself T) (small : T.size ≤ set_room) (pattern heading : List ℕ)
     (p : Pattern) (wp : WritesPattern T pattern p) (h : Term) (wh : WritesTerm T heading h) (r : Matched)
     (decides : Decides T 1000 p h r) (reasons : Reasons T 1000 p h pattern r)
     (says : (low high : ℕ) → r.answer ≡ gives (degrees low high) → SetsAndDegrees T 1000 p h r low high) where
@@ -99,7 +99,7 @@ module _ (T : Table) (L : Lawful T) (own : OnlyItself T) (small : T.size ≤ set
     makes : (τ : ℕ → Term) → ((v : ℕ) → stands v p ≡ true → DrawnFrom T r.spans r.sets v (τ v)) ↔ (fill τ p ≡ h)
     makes τ = ((λ d. (makes_it τ).0 ((f.matchers τ).1 d)), (λ e. (f.matchers τ).0 ((makes_it τ).1 e)))
 
-    module _ (v : ℕ) (s : stands v p ≡ true) (k : ℕ) (b : k < positionCount r.spans v) where
+    module _ (v : ℕ) (s : stands v p ≡ true) (k : ℕ) (b : k < position_count_lem r.spans v) where
       -- at the variable's first facing subterm a set has the symbol that stands there, and no other
       same_symbol : (ts : List Term) → 0 < length ts → (x y : ℕ) → All (λ t. 1000 ≤ T.deg x (at T t k)) ts → All (λ t. 1000 ≤ T.deg y (at T t k)) ts → x ≡ y
       same_symbol [] l x y a c = absurd (not-suc-le-zero l)
@@ -118,14 +118,14 @@ module _ (T : Table) (L : Lawful T) (own : OnlyItself T) (small : T.size ≤ set
       abbrev symbol : ℕ
       symbol = get_or (enc (σ v)) k 0
 
-      known : symbol < setRoom
+      known : symbol < set_room
       known = omega (arith, get_d_any (enc (σ v)) k 0 T.size inside, over-at T (σ v) (m.over v s) k inside, small)
 
-      one : (x : ℕ) → x < setRoom → holds r.sets (firstPosition r.spans v + k) x ≡ true ↔ (x ≡ symbol)
+      one : (x : ℕ) → x < set_room → holds r.sets (first_position_lem r.spans v + k) x ≡ true ↔ (x ≡ symbol)
       one x l =
           let near = (says f.lowest f.highest f.answered).sets v s k b in (
             (λ q. same_symbol (facing v (faces p h)) faced x symbol ((near x l).0 q).1 ((near symbol known).0 (from.symbols k inside)).1),
-            (λ e. subst (λ y. holds r.sets (firstPosition r.spans v + k) y ≡ true) (inv e) (from.symbols k inside)),
+            (λ e. subst (λ y. holds r.sets (first_position_lem r.spans v + k) y ≡ true) (inv e) (from.symbols k inside)),
           )
 
   itself : (d : Degrees) → r.answer ≡ gives d → OnlyTheSame T p h r d

@@ -10,7 +10,7 @@ use lib.ListN.{length, length-append}
 use Rattle.theory.specs.Table.{Table}
 use Rattle.theory.specs.Faces.{Face, facing}
 use Rattle.theory.specs.Match.{in_set}
-use Rattle.meaning.specs.Limits.{setWords}
+use Rattle.meaning.specs.Limits.{set_words_lem}
 use Rattle.meaning.specs.Packing.{through, count_of, sum, words, sets_of, all_words_lem}
 use Rattle.meaning.proofs.Bits.{length-words}
 use Rattle.meaning.proofs.Packing.{length-through, one, length_one}
@@ -40,7 +40,7 @@ module _ (T : Table) (c : ℕ) (fs : List Face) where
   sets_many [] = refl
   sets_many (v ∷ vs) = omega (arith, length-append (through (count_of fs v) (one T c fs v)) (sets_of T c fs vs), length_one T c fs v, sets_many vs)
 
-  pub words_many : (vs : List ℕ) → length (all_words_lem (sets_of T c fs vs)) ≡ setWords * sum (count_of fs) vs
+  pub words_many : (vs : List ℕ) → length (all_words_lem (sets_of T c fs vs)) ≡ set_words_lem * sum (count_of fs) vs
   words_many vs = omega (arith, length-words (sets_of T c fs vs), sets_many vs)
 
   -- the words of these variables, and of the first k positions of v
@@ -60,7 +60,7 @@ module _ (T : Table) (c : ℕ) (fs : List Face) where
   pub words_to_end : (vs : List ℕ) (v : ℕ) → words_to vs v (count_of fs v) ≡ all_words_lem (sets_of T c fs (vs ++ (v ∷ [])))
   words_to_end vs v = ap all_words_lem (inv (sets_last vs v))
 
-  pub words_to_many : (vs : List ℕ) (v k : ℕ) → length (words_to vs v k) ≡ setWords * (sum (count_of fs) vs + k)
+  pub words_to_many : (vs : List ℕ) (v k : ℕ) → length (words_to vs v k) ≡ set_words_lem * (sum (count_of fs) vs + k)
   words_to_many vs v k =
       omega (
         arith,

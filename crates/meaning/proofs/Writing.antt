@@ -11,9 +11,9 @@ use lib.ListN.{length, get_or, take, drop, length-append, length-take, length-dr
 use Rattle.theory.specs.Least.{All}
 use Rattle.theory.specs.Pairs.{Pair, pair, SoundPair}
 use Rattle.theory.proofs.Lemmas.{all_append, all_get_d}
-use Rattle.meaning.specs.Limits.{mostSymbols, mostPairs}
-use Rattle.meaning.specs.File.{number, symbolCount, pairCount, pairs_at_lem, total, aritiesIn, pair_at, pairs_from, pairsIn, bytes_of, header, pair_bytes, pairs_bytes, file_of}
-use Rattle.meaning.specs.Refusals.{first, tableRows, row1_short, row1_offsets, row2, row3, row4, row8-output, SoundFile}
+use Rattle.meaning.specs.Limits.{most_symbols, most_pairs}
+use Rattle.meaning.specs.File.{number, symbol_count_lem, pair_count_lem, pairs_at_lem, total, arities_in, pair_at, pairs_from, pairs_in, bytes_of, header, pair_bytes, pairs_bytes, file_of}
+use Rattle.meaning.specs.Refusals.{first, table_rows, row1_short, row1_offsets, row2, row3, row4, row8-output, SoundFile}
 use Rattle.meaning.specs.Calls.{writer_rows}
 use Rattle.meaning.specs.Tables.{Bytes}
 use Rattle.meaning.proofs.First.{Silent, all_silent, silent_first}
@@ -24,8 +24,8 @@ use Rattle.meaning.proofs.Silent.{silent_short, silent_offsets}
 pub record ReadWritten (arities : List ℕ) (pairs : List Pair) : Type 0 where
   pub bytes : Bytes (file_of arities pairs)
   pub is_table_lem-is : SoundFile (file_of arities pairs)
-  pub same_arities : aritiesIn (file_of arities pairs) ≡ arities
-  pub same_pairs : pairsIn (file_of arities pairs) ≡ pairs
+  pub same_arities : arities_in (file_of arities pairs) ≡ arities
+  pub same_pairs : pairs_in (file_of arities pairs) ≡ pairs
 
 -- ---- numbers and bytes
 
@@ -63,20 +63,20 @@ module _ (arities : List ℕ) (pairs : List Pair) where
   abbrev file : List ℕ
   file = file_of arities pairs
 
-  count_is : symbolCount file ≡ length arities
+  count_is : symbol_count_lem file ≡ length arities
   unfolding file_of
   count_is = digits (length arities)
 
-  pairs_is : pairCount file ≡ length pairs
+  pairs_is : pair_count_lem file ≡ length pairs
   unfolding file_of
   pairs_is = digits (length pairs)
 
-  arities_back : aritiesIn file ≡ arities
-  unfolding file_of aritiesIn
+  arities_back : arities_in file ≡ arities
+  unfolding file_of arities_in
   arities_back = ap (λ n. take n (arities ++ pairs_bytes pairs)) (digits (length arities)) ∙ take_at arities (pairs_bytes pairs) (length arities) refl
 
-  pairs_back : pairsIn file ≡ pairs
-  unfolding file_of pairsIn
+  pairs_back : pairs_in file ≡ pairs
+  unfolding file_of pairs_in
   pairs_back =
       let pre = header (length arities) (length pairs) ++ arities in
       ap₂ (λ s p. pairs_from file (pairs_at_lem s) p) (digits (length arities)) (digits (length pairs))
@@ -91,7 +91,7 @@ module _ (arities : List ℕ) (pairs : List Pair) where
 two_bytes : (n : ℕ) → n < 65536 → Bytes (bytes_of n)
 two_bytes n l = (omega arith, (omega arith, tt))
 
-pairs_bytes_lem : (arities : List ℕ) → length arities ≤ mostSymbols → (ps : List Pair) → All (SoundPair arities) ps → Bytes (pairs_bytes ps)
+pairs_bytes_lem : (arities : List ℕ) → length arities ≤ most_symbols → (ps : List Pair) → All (SoundPair arities) ps → Bytes (pairs_bytes ps)
 pairs_bytes_lem arities b [] s = tt
 pairs_bytes_lem arities b (pair l h d ∷ ps) s =
     let x = two_bytes l (omega (arith, s.0.0, s.0.1)) in
@@ -104,7 +104,7 @@ module _ (arities : List ℕ) (pairs : List Pair) (output : List ℕ) (e : first
   unfolding writer_rows
   silent = all_silent (writer_rows arities pairs output) e
 
-  counts : (1 ≤ length arities) × (length arities ≤ mostSymbols) × (length pairs ≤ mostPairs)
+  counts : (1 ≤ length arities) × (length arities ≤ most_symbols) × (length pairs ≤ most_pairs)
   counts = counts_inside (length arities) (length pairs) silent.0
 
   arity_bytes : Bytes arities
@@ -120,13 +120,13 @@ module _ (arities : List ℕ) (pairs : List Pair) (output : List ℕ) (e : first
 
   -- LAW: what the writer's rows let pass is written as a table
   pub read_back : ReadWritten arities pairs
-  unfolding file_of tableRows
+  unfolding file_of table_rows
   read_back =
       record {
         bytes =
             all_append (λ b. b < 256) (header (length arities) (length pairs)) (arities ++ pairs_bytes pairs) header_bytes
             (all_append (λ b. b < 256) arities (pairs_bytes pairs) arity_bytes (pairs_bytes_lem arities counts.1 pairs (sound_pairs_lem arities pairs silent.1.1.0)));
-        is_table_lem-is = silent_first (tableRows (file_of arities pairs)) (short, (again, (off, (rw (arities_back arities pairs) silent.1.0, (rw (arities_back arities pairs, pairs_back arities pairs) silent.1.1.0, tt)))));
+        is_table_lem-is = silent_first (table_rows (file_of arities pairs)) (short, (again, (off, (rw (arities_back arities pairs) silent.1.0, (rw (arities_back arities pairs, pairs_back arities pairs) silent.1.1.0, tt)))));
         same_arities = arities_back arities pairs;
         same_pairs = pairs_back arities pairs;
       }
@@ -137,7 +137,7 @@ module _ (arities : List ℕ) (pairs : List Pair) (output : List ℕ) (e : first
       short : Silent (row1_short f)
       short = silent_short f (omega (arith, length_file arities pairs))
 
-      again : Silent (row2 (symbolCount f) (pairCount f))
+      again : Silent (row2 (symbol_count_lem f) (pair_count_lem f))
       again = rw (count_is arities pairs, pairs_is arities pairs) silent.0
 
       off : Silent (row1_offsets f)
@@ -182,10 +182,10 @@ module _ (t : List ℕ) (bytes : Bytes t) where
       ∙ ap (λ r. pair_bytes (pair_at t i) ++ r)
       (pairs_read n (i + 6) (omega arith) ∙ ap (λ k. pairs_bytes (pairs_from t (i + 6) n) ++ drop k t) e)
 
-  header_read : 10 ≤ length t → Offsets t → header (symbolCount t) (pairCount t) ++ drop 10 t ≡ t
+  header_read : 10 ≤ length t → Offsets t → header (symbol_count_lem t) (pair_count_lem t) ++ drop 10 t ≡ t
   header_read l o =
-      let s = symbolCount t in
-      let p = pairCount t in
+      let s = symbol_count_lem t in
+      let p = pair_count_lem t in
       ap (λ n. bytes_of s ++ (bytes_of p ++ (bytes_of n ++ (bytes_of (pairs_at_lem s) ++ (bytes_of (total s p) ++ drop 10 t))))) (inv o.of_arities)
       ∙ ap (λ n. bytes_of s ++ (bytes_of p ++ (bytes_of (number t 4) ++ (bytes_of n ++ (bytes_of (total s p) ++ drop 10 t))))) (inv o.of_pairs)
       ∙ ap (λ n. bytes_of s ++ (bytes_of p ++ (bytes_of (number t 4) ++ (bytes_of (number t 6) ++ (bytes_of n ++ drop 10 t))))) (inv o.of_total)
@@ -196,12 +196,12 @@ module _ (t : List ℕ) (bytes : Bytes t) where
       ∙ inv (number_bytes 0 (omega arith))
 
   -- LAW: a table is the file of what it holds
-  pub write_back : SoundFile t → file_of (aritiesIn t) (pairsIn t) ≡ t
-  unfolding file_of aritiesIn pairsIn
+  pub write_back : SoundFile t → file_of (arities_in t) (pairs_in t) ≡ t
+  unfolding file_of arities_in pairs_in
   write_back e =
       let q = passed t e in
-      let s = symbolCount t in
-      let p = pairCount t in
+      let s = symbol_count_lem t in
+      let p = pair_count_lem t in
       let n : length (take s (drop 10 t)) ≡ s = omega (arith, length-take s (drop 10 t), length-drop 10 t, q.length_is) in
       let m : length (pairs_from t (pairs_at_lem s) p) ≡ p = length-pairs_from t p (pairs_at_lem s) in
       let end : drop (pairs_at_lem s + 6 * p) t ≡ [] = ap (λ k. drop k t) (inv q.length_is) ∙ drop-length t in

@@ -4,20 +4,20 @@ use Rattle.std.proofs.Math.Option.{some as just}
 use Rattle.theory.specs.Tree.{Pattern}
 use Rattle.theory.specs.Table.{Table}
 use Rattle.theory.specs.Faults.{FaultAt, FaultPlace}
-use Rattle.meaning.specs.File.{tableIn}
+use Rattle.meaning.specs.File.{table_in}
 use Rattle.meaning.specs.Refusals.{refusal, first, row6, row7, SoundFile}
 use Rattle.meaning.specs.Calls.{Answer, refused, Matched}
 use Rattle.meaning.specs.Parts.{IsTerm}
 
 -- The two rows: a list of more than 1,024 nodes is refused at 1024, whatever its nodes are; every other list at its fault, and at no other place.
 pub record FaultRows (table : List ℕ) : Type 0 where
-  pub six_too_long : (vars : Bool) (list : List ℕ) → 1024 < length list → first (row6 (tableIn table) vars list ∷ []) ≡ just (refusal 6 1024)
-  pub seven_too_long : (list : List ℕ) → 1024 < length list → first (row7 (tableIn table) list ∷ []) ≡ just (refusal 7 1024)
+  pub six_too_long : (vars : Bool) (list : List ℕ) → 1024 < length list → first (row6 (table_in table) vars list ∷ []) ≡ just (refusal 6 1024)
+  pub seven_too_long : (list : List ℕ) → 1024 < length list → first (row7 (table_in table) list ∷ []) ≡ just (refusal 7 1024)
   pub six_at : (vars : Bool) (list : List ℕ) → length list ≤ 1024
-      → (j : ℕ) → first (row6 (tableIn table) vars list ∷ []) ≡ just (refusal 6 j) ↔ FaultAt (tableIn table) vars list j
+      → (j : ℕ) → first (row6 (table_in table) vars list ∷ []) ≡ just (refusal 6 j) ↔ FaultAt (table_in table) vars list j
   pub seven_at : (list : List ℕ) → length list ≤ 1024
-      → (j : ℕ) → first (row7 (tableIn table) list ∷ []) ≡ just (refusal 7 j) ↔ FaultAt (tableIn table) false list j
-  pub one_fault : (vars : Bool) (list : List ℕ) (j k : ℕ) → FaultAt (tableIn table) vars list j → FaultAt (tableIn table) vars list k → j ≡ k
+      → (j : ℕ) → first (row7 (table_in table) list ∷ []) ≡ just (refusal 7 j) ↔ FaultAt (table_in table) false list j
+  pub one_fault : (vars : Bool) (list : List ℕ) (j k : ℕ) → FaultAt (table_in table) vars list j → FaultAt (table_in table) vars list k → j ≡ k
 
 -- What a call answers that is lent two terms, the first with variables or without: 6 exactly at the place of the first, and 7, if the first is a
 -- term, exactly at the place of the second.
@@ -27,10 +27,10 @@ pub record TermFaults {A : Type 0} (T : Table) (vars : Bool) (one two : List ℕ
 
 -- So it is with the degree of two headings, of a table that is not refused,
 abbrev pub HeadingFaults : ((table one two : List ℕ) → Answer ℕ) → Type 0
-HeadingFaults degreeOf = (table one two : List ℕ) → SoundFile table → TermFaults (tableIn table) false one two (degreeOf table one two)
+HeadingFaults degree_of = (table one two : List ℕ) → SoundFile table → TermFaults (table_in table) false one two (degree_of table one two)
 
 -- and with a match, if its cut is not refused either.
 abbrev pub MatchFaults : ((table pattern heading : List ℕ) (cut : ℕ) (spans sets : List ℕ) → Matched) → Type 0
 MatchFaults match =
     (table pattern heading : List ℕ) (cut : ℕ) (spans sets : List ℕ) → SoundFile table → 1 ≤ cut → cut ≤ 1000
-    → TermFaults (tableIn table) true pattern heading (match table pattern heading cut spans sets).answer
+    → TermFaults (table_in table) true pattern heading (match table pattern heading cut spans sets).answer

@@ -5,25 +5,25 @@ use Rattle.std.specs.Prelude.{ℕ, ◌*◌}
 abbrev pub word_bits : ℕ
 word_bits = 64
 
-abbrev pub setWords : ℕ
-setWords = 8
+abbrev pub set_words_lem : ℕ
+set_words_lem = 8
 
-abbrev pub setRoom : ℕ
-setRoom = word_bits * setWords
+abbrev pub set_room : ℕ
+set_room = word_bits * set_words_lem
 
 -- the most symbols and pairs that a table may have, and the highest arity
-abbrev pub mostSymbols : ℕ
-mostSymbols = setRoom
+abbrev pub most_symbols : ℕ
+most_symbols = set_room
 
-abbrev pub mostPairs : ℕ
-mostPairs = 8192
+abbrev pub most_pairs : ℕ
+most_pairs = 8192
 
 abbrev pub most_arguments : ℕ
 most_arguments = 8
 
 -- variables are numbered below this, and each has a span of so many numbers
-abbrev pub variableCount : ℕ
-variableCount = 32
+abbrev pub variable_count : ℕ
+variable_count = 32
 
-abbrev pub spanWidth : ℕ
-spanWidth = 4
+abbrev pub span_width : ℕ
+span_width = 4

@@ -5,9 +5,9 @@ use Rattle.std.proofs.Math.Option.{Option, none, some as just}
 use Rattle.theory.specs.Tree.{Term, Pattern, var, sym, Patterns, ∅ₚ, ◌▸◌, encₚ}
 use Rattle.theory.specs.Table.{Table, degree}
 use Rattle.theory.specs.Read.{Fine, depth}
-use Rattle.meaning.specs.File.{tableIn}
+use Rattle.meaning.specs.File.{table_in}
 use Rattle.meaning.specs.Refusals.{first, Given, row6, row7}
-use Rattle.meaning.specs.Calls.{Part, part, subtermRows, Nearer, the_first, the_second_lem, neither, nearerRows}
+use Rattle.meaning.specs.Calls.{Part, part, subterm_rows, Nearer, the_first, the_second_lem, neither, nearer_rows}
 use Rattle.meaning.specs.Demands.{WritesTerm, WritesPattern, Only}
 
 -- ---- which lists are terms
@@ -21,8 +21,8 @@ pub record IsTerm (T : Table) (vars : Bool) (list : List ℕ) (p : Pattern) : Ty
 
 -- A list is not refused by 6, by 7, exactly if it writes a pattern, a term without variables.
 pub record TermLists (table : List ℕ) : Type 0 where
-  pub six : (vars : Bool) (list : List ℕ) → first (row6 (tableIn table) vars list ∷ []) ≡ none ↔ ((p : Pattern) × IsTerm (tableIn table) vars list p)
-  pub seven : (list : List ℕ) → first (row7 (tableIn table) list ∷ []) ≡ none ↔ ((p : Pattern) × IsTerm (tableIn table) false list p)
+  pub six : (vars : Bool) (list : List ℕ) → first (row6 (table_in table) vars list ∷ []) ≡ none ↔ ((p : Pattern) × IsTerm (table_in table) vars list p)
+  pub seven : (list : List ℕ) → first (row7 (table_in table) list ∷ []) ≡ none ↔ ((p : Pattern) × IsTerm (table_in table) false list p)
 
 -- ---- the subterm at an index
 
@@ -42,14 +42,14 @@ abbrev mutual
 pub record SubtermIs (table term : List ℕ) (i : ℕ) (r : Part) : Type 0 where
   pub p : Pattern
   pub q : Pattern
-  pub writes_term : Only (WritesPattern (tableIn table) term) p
+  pub writes_term : Only (WritesPattern (table_in table) term) p
   pub subterm_is : subterm_at p i ≡ just q
   pub handed_back : r ≡ part i (length (encₚ q))
   pub holds_it : take (length (encₚ q)) (drop i term) ≡ encₚ q
 
 pub record Subterms (subterm_of : (table term : List ℕ) (i : ℕ) → Part) : Type 0 where
-  pub found : (table term : List ℕ) (i : ℕ) → first (subtermRows table term) ≡ none → i < length term → SubtermIs table term i (subterm_of table term i)
-  pub refused_part : (table term : List ℕ) (i n place : ℕ) → Given (subtermRows table term) n place → subterm_of table term i ≡ part 0 0
+  pub found : (table term : List ℕ) (i : ℕ) → first (subterm_rows table term) ≡ none → i < length term → SubtermIs table term i (subterm_of table term i)
+  pub refused_part : (table term : List ℕ) (i n place : ℕ) → Given (subterm_rows table term) n place → subterm_of table term i ≡ part 0 0
   pub outside_part : (table term : List ℕ) (i : ℕ) → length term ≤ i → subterm_of table term i ≡ part 0 0
 
 -- ---- the nearer of two
@@ -59,12 +59,12 @@ pub record NearerIs (table heading one two : List ℕ) (r : Nearer) : Type 0 whe
   pub h : Term
   pub t : Term
   pub u : Term
-  pub writes_heading : Only (WritesTerm (tableIn table) heading) h
-  pub writes_one : Only (WritesTerm (tableIn table) one) t
-  pub writes_two : Only (WritesTerm (tableIn table) two) u
-  pub first_one : r ≡ the_first ↔ (degree (tableIn table) h u ≤ degree (tableIn table) h t)
-  pub second_one : r ≡ the_second_lem ↔ (degree (tableIn table) h t < degree (tableIn table) h u)
+  pub writes_heading : Only (WritesTerm (table_in table) heading) h
+  pub writes_one : Only (WritesTerm (table_in table) one) t
+  pub writes_two : Only (WritesTerm (table_in table) two) u
+  pub first_one : r ≡ the_first ↔ (degree (table_in table) h u ≤ degree (table_in table) h t)
+  pub second_one : r ≡ the_second_lem ↔ (degree (table_in table) h t < degree (table_in table) h u)
 
 pub record Nearest (nearer_of : (table heading one two : List ℕ) → Nearer) : Type 0 where
-  pub found : (table heading one two : List ℕ) → first (nearerRows table heading one two) ≡ none → NearerIs table heading one two (nearer_of table heading one two)
-  pub neither_if : (table heading one two : List ℕ) → nearer_of table heading one two ≡ neither ↔ ((n : ℕ) × (place : ℕ) × Given (nearerRows table heading one two) n place)
+  pub found : (table heading one two : List ℕ) → first (nearer_rows table heading one two) ≡ none → NearerIs table heading one two (nearer_of table heading one two)
+  pub neither_if : (table heading one two : List ℕ) → nearer_of table heading one two ≡ neither ↔ ((n : ℕ) × (place : ℕ) × Given (nearer_rows table heading one two) n place)

@@ -6,12 +6,12 @@ use Rattle.theory.specs.Tree.{Term, Pattern}
 use Rattle.theory.specs.Table.{Table}
 use Rattle.theory.specs.Faces.{faces}
 use Rattle.theory.specs.Match.{clash}
-use Rattle.theory.specs.Least.{leastBelow}
+use Rattle.theory.specs.Least.{least_below}
 use Rattle.theory.specs.Verdict.{lacking}
 use Rattle.theory.specs.Read.{Reading, whole, faulty, reading}
-use Rattle.theory.specs.Pairs.{Pair, pair, listedTop}
-use Rattle.meaning.specs.Limits.{setWords, mostSymbols, mostPairs, most_arguments, variableCount, spanWidth}
-use Rattle.meaning.specs.File.{number, symbolCount, pairCount, arities_offset, pairs_offset, total_field, pairs_at_lem, total, aritiesIn, pairsIn}
+use Rattle.theory.specs.Pairs.{Pair, pair, listed_top}
+use Rattle.meaning.specs.Limits.{set_words_lem, most_symbols, most_pairs, most_arguments, variable_count, span_width}
+use Rattle.meaning.specs.File.{number, symbol_count_lem, pair_count_lem, arities_offset, pairs_offset, total_field, pairs_at_lem, total, arities_in, pairs_in}
 
 -- A refusal: its number and its place.
 pub data Refusal : Type 0 where
@@ -71,8 +71,8 @@ row1_short file = row 1 (at0 (ltb (length file) 10))
 abbrev pub misplaced : List ℕ → Bool
 misplaced file =
     not (eqb (arities_offset file) 10)
-    || not (eqb (pairs_offset file) (pairs_at_lem (symbolCount file)))
-    || not (eqb (total_field file) (total (symbolCount file) (pairCount file)))
+    || not (eqb (pairs_offset file) (pairs_at_lem (symbol_count_lem file)))
+    || not (eqb (total_field file) (total (symbol_count_lem file) (pair_count_lem file)))
     || not (eqb (total_field file) (length file))
 
 unfoldable pub row1_offsets : List ℕ → Row
@@ -80,11 +80,11 @@ row1_offsets file = row 1 (at0 (misplaced file))
 
 -- 2, at 0: no symbols or too many, or too many pairs.
 unfoldable pub row2 : ℕ → ℕ → Row
-row2 s p = row 2 (at0 (outside 1 mostSymbols s || outside 0 mostPairs p))
+row2 s p = row 2 (at0 (outside 1 most_symbols s || outside 0 most_pairs p))
 
 -- 3, at the first symbol whose arity is too high.
 unfoldable pub row3 : List ℕ → Row
-row3 arities = row 3 (leastBelow (length arities) (λ a. ltb most_arguments (get_or arities a 0)))
+row3 arities = row 3 (least_below (length arities) (λ a. ltb most_arguments (get_or arities a 0)))
 
 -- the pair may not be listed: its symbols are not rising, or one is none of the table's, or their arities differ, or its degree is out of range
 abbrev pub unsound : List ℕ → Pair → Bool
@@ -92,7 +92,7 @@ unsound arities (pair lower higher degree) =
     not (ltb lower higher)
     || not (ltb higher (length arities))
     || not (eqb (get_or arities lower 0) (get_or arities higher 0))
-    || outside 1 listedTop degree
+    || outside 1 listed_top degree
 
 -- the second pair may stand after the first: its lower symbol is higher, or that is the same and its higher one is higher
 abbrev pub rises : Pair → Pair → Bool
@@ -104,11 +104,11 @@ unordered pairs zero = false
 unordered pairs (suc k) = not (rises (get_or pairs k (pair 0 0 0)) (get_or pairs (suc k) (pair 0 0 0)))
 
 -- 4, at the first pair that may not be listed or does not rise; pairs are counted from 0.
-abbrev pub badPair : List ℕ → List Pair → ℕ → Bool
-badPair arities pairs k = unsound arities (get_or pairs k (pair 0 0 0)) || unordered pairs k
+abbrev pub bad_pair_lem : List ℕ → List Pair → ℕ → Bool
+bad_pair_lem arities pairs k = unsound arities (get_or pairs k (pair 0 0 0)) || unordered pairs k
 
 unfoldable pub row4 : List ℕ → List Pair → Row
-row4 arities pairs = row 4 (leastBelow (length pairs) (badPair arities pairs))
+row4 arities pairs = row 4 (least_below (length pairs) (bad_pair_lem arities pairs))
 
 -- 5, at 0: the cut is no degree above 0.
 unfoldable pub row5 : ℕ → Row
@@ -124,7 +124,7 @@ row7 T heading = row 7 (fault_of (reading T false heading))
 
 -- 8, at 0: spans have no room for every variable's, or sets none for as many positions as the heading has nodes.
 unfoldable pub row8 : List ℕ → List ℕ → List ℕ → Row
-row8 heading spans sets = row 8 (at0 (ltb (length spans) (spanWidth * variableCount) || ltb (length sets) (setWords * length heading)))
+row8 heading spans sets = row 8 (at0 (ltb (length spans) (span_width * variable_count) || ltb (length sets) (set_words_lem * length heading)))
 
 -- 8 of a call that writes, at 0: the output is shorter than what is to be written.
 unfoldable pub row8-output : ℕ → List ℕ → Row
@@ -136,7 +136,7 @@ row9 T cut p h = row 9 (clash T cut (faces p h))
 
 -- 10, at the least variable that no one term can stand for: none is near enough to every subterm that faces the variable.
 unfoldable pub row10 : Table → ℕ → Pattern → Term → Row
-row10 T cut p h = row 10 (leastBelow variableCount (lacking T cut p h))
+row10 T cut p h = row 10 (least_below variable_count (lacking T cut p h))
 
 -- 12 of the asking program, at 0, before all others: the question file is too short or too long, an offset is not where the counts of
 -- nodes put it, the total is not the length, or the table would begin past the end.
@@ -164,15 +164,15 @@ row14 index count = row 14 (at0 (not (ltb index count)))
 -- ---- rows that calls share
 
 -- Is this a table: 1 to 4, of which 1 is tested before and after 2.
-unfoldable pub tableRows : List ℕ → List Row
-tableRows file =
+unfoldable pub table_rows : List ℕ → List Row
+table_rows file =
     row1_short file
-    ∷ row2 (symbolCount file) (pairCount file)
+    ∷ row2 (symbol_count_lem file) (pair_count_lem file)
     ∷ row1_offsets file
-    ∷ row3 (aritiesIn file)
-    ∷ row4 (aritiesIn file) (pairsIn file)
+    ∷ row3 (arities_in file)
+    ∷ row4 (arities_in file) (pairs_in file)
     ∷ []
 
 -- A file that none of them refuses.
 abbrev pub SoundFile : List ℕ → Type 0
-SoundFile file = first (tableRows file) ≡ none
+SoundFile file = first (table_rows file) ≡ none

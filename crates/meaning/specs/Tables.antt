@@ -4,9 +4,9 @@ use Rattle.std.specs.Prelude.{◌≡◌, ◌↔◌, ◌⊎◌, List, ◌++◌, f
 use Rattle.theory.specs.Least.{All}
 use Rattle.theory.specs.Table.{Lawful, OnlyItself, Richer}
 use Rattle.theory.specs.Pairs.{Pair, pair, is_pair}
-use Rattle.meaning.specs.File.{number, symbolCount, pairCount, arities_offset, pairs_offset, total_field, total, aritiesIn, pairsIn, tableIn}
+use Rattle.meaning.specs.File.{number, symbol_count_lem, pair_count_lem, arities_offset, pairs_offset, total_field, total, arities_in, pairs_in, table_in}
 use Rattle.meaning.specs.Refusals.{SoundFile}
-use Rattle.meaning.specs.Calls.{Answer, refused, gives, Yes, written, laterOutput}
+use Rattle.meaning.specs.Calls.{Answer, refused, gives, Yes, written, later_output}
 
 -- ---- which files are tables, said outright
 
@@ -14,22 +14,22 @@ use Rattle.meaning.specs.Calls.{Answer, refused, gives, Yes, written, laterOutpu
 abbrev pub arity_byte : List ℕ → ℕ → ℕ
 arity_byte file a = get_or file (10 + a) 0
 
-abbrev pub pairStart : List ℕ → ℕ → ℕ
-pairStart file k = 10 + symbolCount file + 6 * k
+abbrev pub pair_start : List ℕ → ℕ → ℕ
+pair_start file k = 10 + symbol_count_lem file + 6 * k
 
 abbrev pub lower_at : List ℕ → ℕ → ℕ
-lower_at file k = number file (pairStart file k)
+lower_at file k = number file (pair_start file k)
 
 abbrev pub higher_at : List ℕ → ℕ → ℕ
-higher_at file k = number file (pairStart file k + 2)
+higher_at file k = number file (pair_start file k + 2)
 
 abbrev pub degree_at : List ℕ → ℕ → ℕ
-degree_at file k = number file (pairStart file k + 4)
+degree_at file k = number file (pair_start file k + 4)
 
 -- Pair k may be listed: two symbols of the table, the lower first, of equal arity, with a degree from 1 to 999.
 pub record ListedWell (file : List ℕ) (k : ℕ) : Type 0 where
   pub lower_first : lower_at file k < higher_at file k
-  pub in_table : higher_at file k < symbolCount file
+  pub in_table : higher_at file k < symbol_count_lem file
   pub equal_arities : arity_byte file (lower_at file k) ≡ arity_byte file (higher_at file k)
   pub above_zero : 1 ≤ degree_at file k
   pub at_most_top : degree_at file k ≤ 999
@@ -40,16 +40,16 @@ StandsBefore file k j = (lower_at file k < lower_at file j) ⊎ ((lower_at file 
 
 pub record TableFile (file : List ℕ) : Type 0 where
   pub whole_header : 10 ≤ length file
-  pub some_symbol : 1 ≤ symbolCount file
-  pub few_symbols : symbolCount file ≤ 512
-  pub few_pairs_lem : pairCount file ≤ 8192
+  pub some_symbol : 1 ≤ symbol_count_lem file
+  pub few_symbols : symbol_count_lem file ≤ 512
+  pub few_pairs_lem : pair_count_lem file ≤ 8192
   pub arities_follow : arities_offset file ≡ 10
-  pub pairs_follow : pairs_offset file ≡ 10 + symbolCount file
-  pub total_is : total_field file ≡ 10 + symbolCount file + 6 * pairCount file
+  pub pairs_follow : pairs_offset file ≡ 10 + symbol_count_lem file
+  pub total_is : total_field file ≡ 10 + symbol_count_lem file + 6 * pair_count_lem file
   pub length_is : length file ≡ total_field file
-  pub arities : (a : ℕ) → a < symbolCount file → arity_byte file a ≤ 8
-  pub pairs : (k : ℕ) → k < pairCount file → ListedWell file k
-  pub rising : (k : ℕ) → suc k < pairCount file → StandsBefore file k (suc k)
+  pub arities : (a : ℕ) → a < symbol_count_lem file → arity_byte file a ≤ 8
+  pub pairs : (k : ℕ) → k < pair_count_lem file → ListedWell file k
+  pub rising : (k : ℕ) → suc k < pair_count_lem file → StandsBefore file k (suc k)
 
 -- A file is not refused exactly if it is a table.
 abbrev pub Recognised : Type 0
@@ -61,7 +61,7 @@ RefusedThere k answer = ((n place : ℕ) → answer ≡ refused n place → (3 <
 
 -- So it is with a pair that has a degree of 1000 or more, in a file that is read and in pairs that are to be written.
 abbrev pub TopNotListed : List ℕ → Answer Yes → Type 0
-TopNotListed file answer = (k : ℕ) → k < pairCount file → 1000 ≤ degree_at file k → RefusedThere k answer
+TopNotListed file answer = (k : ℕ) → k < pair_count_lem file → 1000 ≤ degree_at file k → RefusedThere k answer
 
 abbrev pub TopNotWritten : List Pair → Answer ℕ → Type 0
 TopNotWritten pairs answer = (k l h d : ℕ) → k < length pairs → get_or pairs k (pair 0 0 0) ≡ pair l h d → 1000 ≤ d → RefusedThere k answer
@@ -70,20 +70,20 @@ TopNotWritten pairs answer = (k l h d : ℕ) → k < length pairs → get_or pai
 
 -- It is lawful, with at most 512 symbols: what is known of degrees in general holds for its symbols. No two different ones have degree 1000.
 pub record SoundTable (table : List ℕ) : Type 0 where
-  pub lawful : Lawful (tableIn table)
-  pub only_itself : OnlyItself (tableIn table)
-  pub small : (tableIn table).size ≤ 512
+  pub lawful : Lawful (table_in table)
+  pub only_itself : OnlyItself (table_in table)
+  pub small : (table_in table).size ≤ 512
 
 -- The answer for two symbol numbers: 1000 of a symbol with itself and of no other two, a listed pair's degree in either order, 0 of every other two
 -- symbols. A number that is no symbol is refused at its place, and the first is told where neither is one.
-pub record SymbolDegrees (table : List ℕ) (degreeOf : ℕ → ℕ → Answer ℕ) : Type 0 where
-  pub itself : (a : ℕ) → a < symbolCount table → degreeOf a a ≡ gives 1000
-  pub whole : (a b : ℕ) → degreeOf a b ≡ gives 1000 → a ≡ b
-  pub listed : (k l h d : ℕ) → k < pairCount table → get_or (pairsIn table) k (pair 0 0 0) ≡ pair l h d → (degreeOf l h ≡ gives d) × (degreeOf h l ≡ gives d)
-  pub others : (a b : ℕ) → a < symbolCount table → b < symbolCount table → (a ≡ b → ⊥) → ((k l h d : ℕ) → k < pairCount table → get_or (pairsIn table) k (pair 0 0 0) ≡ pair l h d → is_pair l h a b ≡ false)
-      → degreeOf a b ≡ gives 0
-  pub first-outside : (a b : ℕ) → symbolCount table ≤ a → degreeOf a b ≡ refused 13 0
-  pub second_outside : (a b : ℕ) → a < symbolCount table → symbolCount table ≤ b → degreeOf a b ≡ refused 13 1
+pub record SymbolDegrees (table : List ℕ) (degree_of : ℕ → ℕ → Answer ℕ) : Type 0 where
+  pub itself : (a : ℕ) → a < symbol_count_lem table → degree_of a a ≡ gives 1000
+  pub whole : (a b : ℕ) → degree_of a b ≡ gives 1000 → a ≡ b
+  pub listed : (k l h d : ℕ) → k < pair_count_lem table → get_or (pairs_in table) k (pair 0 0 0) ≡ pair l h d → (degree_of l h ≡ gives d) × (degree_of h l ≡ gives d)
+  pub others : (a b : ℕ) → a < symbol_count_lem table → b < symbol_count_lem table → (a ≡ b → ⊥) → ((k l h d : ℕ) → k < pair_count_lem table → get_or (pairs_in table) k (pair 0 0 0) ≡ pair l h d → is_pair l h a b ≡ false)
+      → degree_of a b ≡ gives 0
+  pub first-outside : (a b : ℕ) → symbol_count_lem table ≤ a → degree_of a b ≡ refused 13 0
+  pub second_outside : (a b : ℕ) → a < symbol_count_lem table → symbol_count_lem table ≤ b → degree_of a b ≡ refused 13 1
 
 -- ---- how a table is made richer
 
@@ -95,22 +95,22 @@ pub record KeptAs (table₁ table₂ : List ℕ) (k j : ℕ) : Type 0 where
 
 -- The second file has the arities of the first, and each pair of the first still stands in it. Others may stand there besides.
 pub record PairsKept (table₁ table₂ : List ℕ) : Type 0 where
-  pub as_many : symbolCount table₁ ≡ symbolCount table₂
-  pub same_arities : (a : ℕ) → a < symbolCount table₁ → arity_byte table₁ a ≡ arity_byte table₂ a
-  pub kept : (k : ℕ) → k < pairCount table₁ → (j : ℕ) × (j < pairCount table₂) × KeptAs table₁ table₂ k j
+  pub as_many : symbol_count_lem table₁ ≡ symbol_count_lem table₂
+  pub same_arities : (a : ℕ) → a < symbol_count_lem table₁ → arity_byte table₁ a ≡ arity_byte table₂ a
+  pub kept : (k : ℕ) → k < pair_count_lem table₁ → (j : ℕ) × (j < pair_count_lem table₂) × KeptAs table₁ table₂ k j
 
 -- So it is made, and in no other way.
 abbrev pub MadeRicher : List ℕ → List ℕ → Type 0
-MadeRicher table₁ table₂ = Richer (tableIn table₁) (tableIn table₂) ↔ PairsKept table₁ table₂
+MadeRicher table₁ table₂ = Richer (table_in table₁) (table_in table₂) ↔ PairsKept table₁ table₂
 
 -- ---- reading back
 
 -- Reading back gives the bytes of the file at the symbol, at the pair; past the last one there is nothing to read.
 pub record ReadBack (table : List ℕ) (arity_of_lem : ℕ → Answer ℕ) (pair_of : ℕ → Answer Pair) : Type 0 where
-  pub arity : (a : ℕ) → a < symbolCount table → arity_of_lem a ≡ gives (arity_byte table a)
-  pub no_symbol : (a : ℕ) → symbolCount table ≤ a → arity_of_lem a ≡ refused 14 0
-  pub pair : (k : ℕ) → k < pairCount table → pair_of k ≡ gives (pair (lower_at table k) (higher_at table k) (degree_at table k))
-  pub no_pair : (k : ℕ) → pairCount table ≤ k → pair_of k ≡ refused 14 0
+  pub arity : (a : ℕ) → a < symbol_count_lem table → arity_of_lem a ≡ gives (arity_byte table a)
+  pub no_symbol : (a : ℕ) → symbol_count_lem table ≤ a → arity_of_lem a ≡ refused 14 0
+  pub pair : (k : ℕ) → k < pair_count_lem table → pair_of k ≡ gives (pair (lower_at table k) (higher_at table k) (degree_at table k))
+  pub no_pair : (k : ℕ) → pair_count_lem table ≤ k → pair_of k ≡ refused 14 0
 
 -- ---- writing
 
@@ -123,7 +123,7 @@ pub record Wrote : Type 0 where
   pub output : List ℕ
 
 abbrev pub write_call : List ℕ → List Pair → List ℕ → Wrote
-write_call arities pairs output = record { answer = written arities pairs output; output = laterOutput arities pairs output }
+write_call arities pairs output = record { answer = written arities pairs output; output = later_output arities pairs output }
 
 -- What is demanded of a writer: a refusal leaves the output; else the front of the output, as long as the number returned, is a table that reads
 -- back to the same arities and pairs, and the rest of the output stays.
@@ -132,8 +132,8 @@ pub record Writes (arities : List ℕ) (pairs : List Pair) (output : List ℕ) (
   pub returns : (n : ℕ) → r.answer ≡ gives n → n ≡ total (length arities) (length pairs)
   pub is_bytes : (n : ℕ) → r.answer ≡ gives n → Bytes (take n r.output)
   pub is_table_lem-is : (n : ℕ) → r.answer ≡ gives n → SoundFile (take n r.output)
-  pub same_arities : (n : ℕ) → r.answer ≡ gives n → aritiesIn (take n r.output) ≡ arities
-  pub same_pairs : (n : ℕ) → r.answer ≡ gives n → pairsIn (take n r.output) ≡ pairs
+  pub same_arities : (n : ℕ) → r.answer ≡ gives n → arities_in (take n r.output) ≡ arities
+  pub same_pairs : (n : ℕ) → r.answer ≡ gives n → pairs_in (take n r.output) ≡ pairs
   pub rest_stays : (n : ℕ) → r.answer ≡ gives n → drop n r.output ≡ drop n output
 
 -- What was read from a table is taken by the writer, given room, and written as the table's own bytes.
@@ -144,4 +144,4 @@ pub record WritesAgain (table output : List ℕ) (r : Wrote) : Type 0 where
 pub record RoundTrip (write : List ℕ → List Pair → List ℕ → Wrote) : Type 0 where
   pub read_written : (arities : List ℕ) (pairs : List Pair) (output : List ℕ) → Writes arities pairs output (write arities pairs output)
   pub written_read : (table output : List ℕ) → Bytes table → SoundFile table → length table ≤ length output
-      → WritesAgain table output (write (aritiesIn table) (pairsIn table) output)
+      → WritesAgain table output (write (arities_in table) (pairs_in table) output)

@@ -5,15 +5,15 @@ use Rattle.theory.specs.Tree.{Term, Pattern, fill, stands}
 use Rattle.theory.specs.Table.{Table, Over, Matcher}
 use Rattle.theory.specs.Least.{All}
 use Rattle.theory.specs.Match.{FirstUnlike}
-use Rattle.meaning.specs.Limits.{setRoom}
-use Rattle.meaning.specs.File.{tableIn}
+use Rattle.meaning.specs.Limits.{set_room}
+use Rattle.meaning.specs.File.{table_in}
 use Rattle.meaning.specs.Calls.{refused, gives, Degrees, degrees, Matched}
-use Rattle.meaning.specs.Buffers.{firstPosition, positionCount, holds, DrawnFrom}
+use Rattle.meaning.specs.Buffers.{first_position_lem, position_count_lem, holds, DrawnFrom}
 use Rattle.meaning.specs.Demands.{NoMatch}
 
 -- The matchers over this table at cut 1000 are the substitutions that make the pattern the heading itself.
 abbrev pub MatchersMakeIt : List ℕ → Type 0
-MatchersMakeIt table = (p : Pattern) (h : Term) → Over (tableIn table) h → (σ : ℕ → Term) → Matcher (tableIn table) 1000 p h σ ↔ (fill σ p ≡ h)
+MatchersMakeIt table = (p : Pattern) (h : Term) → Over (table_in table) h → (σ : ℕ → Term) → Matcher (table_in table) 1000 p h σ ↔ (fill σ p ≡ h)
 
 -- The list has no variable: their nodes begin at 32768.
 abbrev pub NoVariable : List ℕ → Type 0
@@ -29,8 +29,8 @@ pub record EqualAlone (pattern heading : List ℕ) (r : Matched) : Type 0 where
 pub record OnlyTheSame (T : Table) (p : Pattern) (h : Term) (r : Matched) (d : Degrees) : Type 0 where
   pub both_top : d ≡ degrees 1000 1000
   pub drawn : (σ : ℕ → Term) → ((v : ℕ) → stands v p ≡ true → DrawnFrom T r.spans r.sets v (σ v)) ↔ (fill σ p ≡ h)
-  pub one_symbol : (v : ℕ) → stands v p ≡ true → (k : ℕ) → k < positionCount r.spans v
-      → (s : ℕ) × (s < setRoom) × ((x : ℕ) → x < setRoom → holds r.sets (firstPosition r.spans v + k) x ≡ true ↔ (x ≡ s))
+  pub one_symbol : (v : ℕ) → stands v p ≡ true → (k : ℕ) → k < position_count_lem r.spans v
+      → (s : ℕ) × (s < set_room) × ((x : ℕ) → x < set_room → holds r.sets (first_position_lem r.spans v + k) x ≡ true ↔ (x ≡ s))
 
 -- Of a match at cut 1000 that is not refused for its input or its room, of a list that writes p and one that writes h.
 pub record AtTopCut (T : Table) (p : Pattern) (h : Term) (pattern heading : List ℕ) (r : Matched) : Type 0 where

@@ -11,11 +11,11 @@ use lib.Dec.{eqb}
 use lib.Bits.{bit_or}
 use lib.ListN.{length, get_or, set, take, drop, length-set}
 use lib.Seq.{get_or-set_same, get_or-set_other, get_or-take, get_or-drop}
-use Rattle.meaning.specs.Limits.{word_bits, setWords, setRoom}
+use Rattle.meaning.specs.Limits.{word_bits, set_words_lem, set_room}
 use Rattle.meaning.specs.Buffers.{bit, member}
 use Rattle.meaning.specs.Over.{over}
 use Rattle.sets.proofs.Word.{or_bit, bit_power}
-use Rattle.near.specs.Near.{nearWords, in_row, kept, OwnJoined, Joined, PairJoined}
+use Rattle.near.specs.Near.{near_words, in_row, kept, OwnJoined, Joined, PairJoined}
 use Rattle.near.proofs.Laying.{laid, not_laid, words_hold}
 
 -- ---- in the words of one symbol
@@ -26,16 +26,16 @@ same_bit j k q (yes r) = eq-eqb _ _ r ∙ inv (eq-eqb j k (omega arith))
 same_bit j k q (no r) = ne_eqb _ _ r ∙ inv (ne_eqb j k (λ e. r (ap (λ (i : ℕ). i % word_bits) e)))
 
 -- in the words of a symbol the bit of k is set, and the last of them grows to what 1002 is above the degree
-module _ (own : List ℕ) (k degree : ℕ) (room : nearWords ≤ length own) (small : k < setRoom) where
+module _ (own : List ℕ) (k degree : ℕ) (room : near_words ≤ length own) (small : k < set_room) where
   abbrev word_at : ℕ
   word_at = k / word_bits
 
-  module _ (word far : ℕ) (is : word ≡ bit_or (get_or own word_at 0) (2 ^ (k % word_bits))) (grows : far ≡ max (get_or (set own word_at word) setWords 0) (1002 - degree)) where
+  module _ (word far : ℕ) (is : word ≡ bit_or (get_or own word_at 0) (2 ^ (k % word_bits))) (grows : far ≡ max (get_or (set own word_at word) set_words_lem 0) (1002 - degree)) where
     abbrev later : List ℕ
-    later = set (set own word_at word) setWords far
+    later = set (set own word_at word) set_words_lem far
 
     its_word : get_or later word_at 0 ≡ word
-    its_word = get_or-set_other (set own word_at word) setWords word_at far 0 (λ e. omega arith) ∙ get_or-set_same own word_at word 0 (omega arith)
+    its_word = get_or-set_other (set own word_at word) set_words_lem word_at far 0 (λ e. omega arith) ∙ get_or-set_same own word_at word 0 (omega arith)
 
     its_bits : (i : ℕ) → bit i (get_or later word_at 0) ≡ (bit i (get_or own word_at 0) || eqb i (k % word_bits))
     its_bits i =
@@ -50,12 +50,12 @@ module _ (own : List ℕ) (k degree : ℕ) (room : nearWords ≤ length own) (sm
         record {
           has = λ g j l. has j l (ℕ_discrete (j / word_bits) word_at);
           far = λ g.
-              get_or-set_same (set own word_at word) setWords far 0 (omega (arith, length-set own word_at word))
+              get_or-set_same (set own word_at word) set_words_lem far 0 (omega (arith, length-set own word_at word))
               ∙ grows
-              ∙ ap (λ (n : ℕ). max n (1002 - degree)) (get_or-set_other own word_at setWords word 0 (λ e. omega arith));
+              ∙ ap (λ (n : ℕ). max n (1002 - degree)) (get_or-set_other own word_at set_words_lem word 0 (λ e. omega arith));
         }
       where
-        has : (j : ℕ) → j < setRoom → Dec (j / word_bits ≡ word_at) → member later j ≡ (member own j || eqb j k)
+        has : (j : ℕ) → j < set_room → Dec (j / word_bits ≡ word_at) → member later j ≡ (member own j || eqb j k)
         has j l (yes w) =
             ap (λ (i : ℕ). bit (j % word_bits) (get_or later i 0)) w
             ∙ its_bits (j % word_bits)
@@ -65,34 +65,34 @@ module _ (own : List ℕ) (k degree : ℕ) (room : nearWords ≤ length own) (sm
             (ap (bit (j % word_bits)) (other_word (j / word_bits) w (λ e. omega arith)) ∙ inv (or-false _))
           where
             -- every other word is as it was
-            other_word : (i : ℕ) → (i ≡ word_at → ⊥) → (i ≡ setWords → ⊥) → get_or later i 0 ≡ get_or own i 0
-            other_word i a b = get_or-set_other (set own word_at word) setWords i far 0 b ∙ get_or-set_other own word_at i word 0 a
+            other_word : (i : ℕ) → (i ≡ word_at → ⊥) → (i ≡ set_words_lem → ⊥) → get_or later i 0 ≡ get_or own i 0
+            other_word i a b = get_or-set_other (set own word_at word) set_words_lem i far 0 b ∙ get_or-set_other own word_at i word 0 a
 
 -- LAW: a set that is not gathered is left as it is
-pub own_left : (own : List ℕ) (k degree : ℕ) → get_or own setWords 0 ≡ 1 → OwnJoined k degree own own
+pub own_left : (own : List ℕ) (k degree : ℕ) → get_or own set_words_lem 0 ≡ 1 → OwnJoined k degree own own
 own_left own k degree e = record { has = λ g. absurd (omega arith); far = λ g. absurd (omega arith) }
 
 -- ---- in a set among others
 
 -- the words of h, laid where they were once k has joined them
-module _ (near : List ℕ) (h k degree : ℕ) (own : List ℕ) (room : nearWords * (h + 1) ≤ length near) (whole : length own ≡ nearWords) where
+module _ (near : List ℕ) (h k degree : ℕ) (own : List ℕ) (room : near_words * (h + 1) ≤ length near) (whole : length own ≡ near_words) where
   abbrev words : List ℕ
-  words = take nearWords (drop (nearWords * h) near)
+  words = take near_words (drop (near_words * h) near)
 
   abbrev result : List ℕ
-  result = over near (nearWords * h) own
+  result = over near (near_words * h) own
 
-  inside : nearWords * h + length own ≤ length near
+  inside : near_words * h + length own ≤ length near
   inside = omega arith
 
-  its : (w : ℕ) → w < nearWords → get_or words w 0 ≡ get_or near (nearWords * h + w) 0
-  its w l = get_or-take nearWords (drop (nearWords * h) near) w 0 l ∙ get_or-drop (nearWords * h) near w 0
+  its : (w : ℕ) → w < near_words → get_or words w 0 ≡ get_or near (near_words * h + w) 0
+  its w l = get_or-take near_words (drop (near_words * h) near) w 0 l ∙ get_or-drop (near_words * h) near w 0
 
-  back : (w : ℕ) → w < nearWords → get_or own w 0 ≡ get_or result (nearWords * h + w) 0
-  back w l = inv (laid near (nearWords * h) own inside w (omega arith))
+  back : (w : ℕ) → w < near_words → get_or own w 0 ≡ get_or result (near_words * h + w) 0
+  back w l = inv (laid near (near_words * h) own inside w (omega arith))
 
-  other : (p w : ℕ) → (p ≡ h → ⊥) → w < nearWords → get_or result (nearWords * p + w) 0 ≡ get_or near (nearWords * p + w) 0
-  other p w q l = not_laid near (nearWords * h) own inside (nearWords * p + w) (λ a b. q (omega arith))
+  other : (p w : ℕ) → (p ≡ h → ⊥) → w < near_words → get_or result (near_words * p + w) 0 ≡ get_or near (near_words * p + w) 0
+  other p w q l = not_laid near (near_words * h) own inside (near_words * p + w) (λ a b. q (omega arith))
 
   -- LAW: k has joined the set of h
   pub joined : OwnJoined k degree words own → Joined h k degree near result
@@ -100,10 +100,10 @@ module _ (near : List ℕ) (h k degree : ℕ) (own : List ℕ) (room : nearWords
   joined joins =
       record { has = λ p j g l. has p j g l (ℕ_discrete p h); far = λ p g. far p g (ℕ_discrete p h) }
     where
-      last : get_or words setWords 0 ≡ kept near h
-      last = its setWords (omega arith)
+      last : get_or words set_words_lem 0 ≡ kept near h
+      last = its set_words_lem (omega arith)
 
-      has : (p j : ℕ) → 1 < kept near p → j < setRoom → Dec (p ≡ h) → in_row result p j ≡ (in_row near p j || (eqb p h && eqb j k))
+      has : (p j : ℕ) → 1 < kept near p → j < set_room → Dec (p ≡ h) → in_row result p j ≡ (in_row near p j || (eqb p h && eqb j k))
       has p j g l (yes q) =
           rw (eq-eqb p h q, q)
           (inv (words_hold result h own (λ w l. back w (omega arith)) j l)
@@ -114,10 +114,10 @@ module _ (near : List ℕ) (h k degree : ℕ) (own : List ℕ) (room : nearWords
       far : (p : ℕ) → 1 < kept near p → Dec (p ≡ h) → kept result p ≡ cond (eqb p h) (max (kept near p) (1002 - degree)) (kept near p)
       far p g (yes q) =
           rw (eq-eqb p h q, q)
-          (inv (back setWords (omega arith))
+          (inv (back set_words_lem (omega arith))
           ∙ joins.far (omega (arith, last, ap (kept near) q))
           ∙ ap (λ (n : ℕ). max n (1002 - degree)) last)
-      far p g (no q) = rw (ne_eqb p h q) (other p setWords q (omega arith))
+      far p g (no q) = rw (ne_eqb p h q) (other p set_words_lem q (omega arith))
 
 -- LAW: both symbols of a pair that reaches the cut, one after the other
 pub pair_joined : (cut lower higher degree : ℕ) (before middle after : List ℕ) → cut ≤ degree → Joined lower higher degree before middle → Joined higher lower degree middle after

@@ -8,10 +8,10 @@ use native.Mathlib.Omega.{arith}
 use borrow.Rule.Slice.PartMut.{put_mid, Post-is}
 use lib.ListN.{length, get_or, set, length-set, take, drop, length-append, get_or-append}
 use lib.Seq.{length-take-le, get_or-append-add, get_or-take, get_or-drop, set-append_left}
-use Rattle.meaning.specs.Limits.{word_bits, setWords, setRoom}
+use Rattle.meaning.specs.Limits.{word_bits, set_words_lem, set_room}
 use Rattle.meaning.specs.Buffers.{bit, member}
 use Rattle.meaning.specs.Over.{over}
-use Rattle.near.specs.Near.{nearWords, in_row}
+use Rattle.near.specs.Near.{near_words, in_row}
 
 -- a store behind a list
 set_behind : (xs ys : List ℕ) (i v : ℕ) → set (xs ++ ys) (length xs + i) v ≡ xs ++ set ys i v
@@ -79,7 +79,7 @@ part_back out at n xs e =
     ∙ ap (λ (m : ℕ). (take at out ++ xs) ++ drop (at + m) out) (inv e)
 
 -- LAW: the words of h but the last tell what its set has
-pub words_hold : (near : List ℕ) (h : ℕ) (words : List ℕ) → ((w : ℕ) → w < setWords → get_or words w 0 ≡ get_or near (nearWords * h + w) 0)
-    → (k : ℕ) → k < setRoom → member words k ≡ in_row near h k
+pub words_hold : (near : List ℕ) (h : ℕ) (words : List ℕ) → ((w : ℕ) → w < set_words_lem → get_or words w 0 ≡ get_or near (near_words * h + w) 0)
+    → (k : ℕ) → k < set_room → member words k ≡ in_row near h k
 unfolding member in_row
 words_hold near h words same k l = ap (bit (k % word_bits)) (same (k / word_bits) (omega arith))

@@ -14,11 +14,11 @@ use Rattle.theory.specs.Least.{some, lowest}
 use Rattle.theory.specs.Table.{Table}
 use Rattle.theory.specs.Pairs.{Pair, pair, is_pair, SoundPair}
 use Rattle.theory.proofs.Lemmas.{the_most, and_true, and_left, and_right, or_right, lowest_le, lowest_top, le_lowest}
-use Rattle.meaning.specs.Limits.{setRoom}
-use Rattle.meaning.specs.File.{pairCount, pair_at, aritiesIn, tableIn}
+use Rattle.meaning.specs.Limits.{set_room}
+use Rattle.meaning.specs.File.{pair_count_lem, pair_at, arities_in, table_in}
 use Rattle.meaning.specs.Refusals.{SoundFile}
-use Rattle.meaning.specs.Tables.{pairStart, lower_at, higher_at, degree_at}
-use Rattle.meaning.proofs.Bytes.{pair_in}
+use Rattle.meaning.specs.Tables.{pair_start, lower_at, higher_at, degree_at}
+use Rattle.meaning.proofs.Bytes.{pair_in_lem}
 use Rattle.meaning.proofs.Sound.{sound}
 use Rattle.table.proofs.Reading.{sound_at}
 use Rattle.near.specs.Near.{in_row, kept, is_near, NearSet, Alone, PairJoined}
@@ -38,7 +38,7 @@ module _ (file : List ℕ) (cut : ℕ) where
 
   -- the set of h as the first n pairs make it
   pub record NearTo (n : ℕ) (near : List ℕ) (h : ℕ) : Type 0 where
-    pub has : (k : ℕ) → k < setRoom → in_row near h k ≡ (eqb k h || some n (brings file cut h k))
+    pub has : (k : ℕ) → k < set_room → in_row near h k ≡ (eqb k h || some n (brings file cut h k))
     pub gathered : 1 < kept near h
     pub within : kept near h ≤ 1002
     pub low : 1002 - kept near h ≡ lowest n (brought h)
@@ -54,7 +54,7 @@ module _ (file : List ℕ) (cut : ℕ) where
       }
 
   -- LAW: one pair more
-  pub near_next : (n lower higher degree : ℕ) (before after : List ℕ) → pair lower higher degree ≡ pair_at file (pairStart file n) → degree_at file n ≤ 1000
+  pub near_next : (n lower higher degree : ℕ) (before after : List ℕ) → pair lower higher degree ≡ pair_at file (pair_start file n) → degree_at file n ≤ 1000
       → PairJoined cut lower higher degree before after → (h : ℕ) → NearTo n before h → NearTo (n + 1) after h
   near_next n lower higher degree before after is top joins h so_far =
       let more = subst Joins is joins in
@@ -84,18 +84,18 @@ module _ (file : List ℕ) (cut : ℕ) where
 
   module _ (ok : SoundFile file) where
     -- LAW: a pair is of two symbols, and has a degree
-    pub pair_symbols : (i : ℕ) → i < pairCount file → (lower_at file i < (tableIn file).size) × (higher_at file i < (tableIn file).size) × (degree_at file i ≤ 1000)
-    unfolding tableIn
+    pub pair_symbols : (i : ℕ) → i < pair_count_lem file → (lower_at file i < (table_in file).size) × (higher_at file i < (table_in file).size) × (degree_at file i ≤ 1000)
+    unfolding table_in
     pair_symbols i l =
-        let s = subst (SoundPair (aritiesIn file)) (pair_in file i l) (sound_at file ok i l) in
+        let s = subst (SoundPair (arities_in file)) (pair_in_lem file i l) (sound_at file ok i l) in
         (omega (arith, s.0, s.1), s.1, omega (arith, s.4))
 
   module _ (ok : SoundFile file) (positive : 0 < cut) where
     abbrev T : Table
-    T = tableIn file
+    T = table_in file
 
     -- a pair of h brings the degree of a symbol near to h
-    low_pair : (h i : ℕ) → i < pairCount file → lowest T.size (λ k. cond (is_near T cut h k) (T.deg k h) 1000) ≤ brought h i
+    low_pair : (h i : ℕ) → i < pair_count_lem file → lowest T.size (λ k. cond (is_near T cut h k) (T.deg k h) 1000) ≤ brought h i
     low_pair h i l = go (touches h i) refl (eqb h (lower_at file i)) refl
       where
         g : ℕ → ℕ
@@ -123,45 +123,45 @@ module _ (file : List ℕ) (cut : ℕ) where
             with_other (lower_at file i) (pair_symbols ok i l).0 (second_way last) (and_left (leb cut (degree_at file i)) (eqb h (lower_at file i) || eqb h (higher_at file i)) e)
 
     -- a symbol near to h has degree 1000 with it, or that of a pair of h
-    low_symbol : (h k : ℕ) → lowest (pairCount file) (brought h) ≤ cond (is_near T cut h k) (T.deg k h) 1000
+    low_symbol : (h k : ℕ) → lowest (pair_count_lem file) (brought h) ≤ cond (is_near T cut h k) (T.deg k h) 1000
     low_symbol h k = go (is_near T cut h k) refl (ℕ_discrete h k)
       where
-        by_pair : (i : ℕ) → i < pairCount file → brings file cut h k i ≡ true → lowest (pairCount file) (brought h) ≤ T.deg k h
+        by_pair : (i : ℕ) → i < pair_count_lem file → brings file cut h k i ≡ true → lowest (pair_count_lem file) (brought h) ≤ T.deg k h
         by_pair i m e =
             let of_both = and_right (leb cut (degree_at file i)) (is_pair (lower_at file i) (higher_at file i) h k) e in
             let is = pair_degree file ok i h k m of_both in
             let reaches = and_left (leb cut (degree_at file i)) (is_pair (lower_at file i) (higher_at file i) h k) e in
             let touched : touches h i ≡ true = and_true (leb cut (degree_at file i)) (eqb h (lower_at file i) || eqb h (higher_at file i)) reaches (one_of (eqb h (lower_at file i)) (eqb k (higher_at file i)) (eqb h (higher_at file i)) (eqb k (lower_at file i)) of_both) in
             let here : brought h i ≡ degree_at file i = rw touched in
-            omega (arith, lowest_le (pairCount file) (brought h) i m)
+            omega (arith, lowest_le (pair_count_lem file) (brought h) i m)
           where
             one_of : (a b c d : Bool) → ((a && b) || (c && d)) ≡ true → (a || c) ≡ true
             one_of true b c d e = refl
             one_of false b true d e = refl
             one_of false b false d e = e
 
-        different : (h ≡ k → ⊥) → leb cut (T.deg k h) ≡ true → (b : Bool) → some (pairCount file) (brings file cut h k) ≡ b → lowest (pairCount file) (brought h) ≤ T.deg k h
+        different : (h ≡ k → ⊥) → leb cut (T.deg k h) ≡ true → (b : Bool) → some (pair_count_lem file) (brings file cut h k) ≡ b → lowest (pair_count_lem file) (brought h) ≤ T.deg k h
         different n r false e = absurd (apart file ok cut positive h k n e r)
         different n r true e =
-            elim (the_most (brings file cut h k) (λ i. 0) (pairCount file)) [
+            elim (the_most (brings file cut h k) (λ i. 0) (pair_count_lem file)) [
               | inl none ↦ absurd (false≢true (inv none.0 ∙ e))
               | inr one ↦ by_pair one.pick one.below one.passes
             ]
 
-        go : (b : Bool) → is_near T cut h k ≡ b → Dec (h ≡ k) → lowest (pairCount file) (brought h) ≤ cond b (T.deg k h) 1000
-        go false e d = lowest_top (pairCount file) (brought h)
+        go : (b : Bool) → is_near T cut h k ≡ b → Dec (h ≡ k) → lowest (pair_count_lem file) (brought h) ≤ cond b (T.deg k h) 1000
+        go false e d = lowest_top (pair_count_lem file) (brought h)
         go true e (yes d) =
             let inside = ltb-true k T.size (and_left (ltb k T.size) (leb cut (T.deg k h)) e) in
-            omega (arith, lowest_top (pairCount file) (brought h), ap (T.deg k) d, (sound file ok).lawful.itself k inside)
+            omega (arith, lowest_top (pair_count_lem file) (brought h), ap (T.deg k) d, (sound file ok).lawful.itself k inside)
         go true e (no d) = different d (and_right (ltb k T.size) (leb cut (T.deg k h)) e) _ refl
 
     -- LAW: all pairs
-    pub near_all : cut ≤ 1000 → (near : List ℕ) (h : ℕ) → h < T.size → NearTo (pairCount file) near h → NearSet T cut near h
+    pub near_all : cut ≤ 1000 → (near : List ℕ) (h : ℕ) → h < T.size → NearTo (pair_count_lem file) near h → NearSet T cut near h
     near_all top near h m all =
-        let itself : (k : ℕ) → walked file cut (pairCount file) h k ≡ (eqb k h || some (pairCount file) (brings file cut h k)) = λ k. rw (lt-ltb h T.size m) in
+        let itself : (k : ℕ) → walked file cut (pair_count_lem file) h k ≡ (eqb k h || some (pair_count_lem file) (brings file cut h k)) = λ k. rw (lt-ltb h T.size m) in
         let g : ℕ → ℕ = λ k. cond (is_near T cut h k) (T.deg k h) 1000 in
-        let least = le_lowest T.size g (lowest (pairCount file) (brought h)) (lowest_top (pairCount file) (brought h)) (λ k l. low_symbol h k) in
-        let most = le_lowest (pairCount file) (brought h) (lowest T.size g) (lowest_top T.size g) (low_pair h) in
+        let least = le_lowest T.size g (lowest (pair_count_lem file) (brought h)) (lowest_top (pair_count_lem file) (brought h)) (λ k l. low_symbol h k) in
+        let most = le_lowest (pair_count_lem file) (brought h) (lowest T.size g) (lowest_top T.size g) (low_pair h) in
         record {
           has = λ k l. all.has k l ∙ inv (itself k) ∙ (one_pass file ok cut positive top).as_asked h k;
           gathered = all.gathered;

@@ -2,7 +2,7 @@
 use Rattle.std.specs.Prelude.{◌≡◌, List, Bool, false, ◌&&◌, ◌||◌, ℕ, ◌≤◌, ltb, leb, eqb}
 use Rattle.theory.specs.Least.{some}
 use Rattle.theory.specs.Pairs.{is_pair}
-use Rattle.meaning.specs.File.{pairCount, tableIn}
+use Rattle.meaning.specs.File.{pair_count_lem, table_in}
 use Rattle.meaning.specs.Tables.{lower_at, higher_at, degree_at}
 use Rattle.near.specs.Near.{is_near}
 
@@ -12,9 +12,9 @@ brings file cut h k i = leb cut (degree_at file i) && is_pair (lower_at file i) 
 
 -- After n pairs k is in the set of h: it is h itself, which is a symbol, or one of these pairs brings it.
 abbrev pub walked : List ℕ → ℕ → ℕ → ℕ → ℕ → Bool
-walked file cut n h k = (ltb h (tableIn file).size && eqb k h) || some n (brings file cut h k)
+walked file cut n h k = (ltb h (table_in file).size && eqb k h) || some n (brings file cut h k)
 
 -- After all pairs the sets hold what asking gives. A number that is no symbol has no set, not even one of itself.
 pub record OnePass (file : List ℕ) (cut : ℕ) : Type 0 where
-  pub as_asked : (h k : ℕ) → walked file cut (pairCount file) h k ≡ is_near (tableIn file) cut h k
-  pub none-outside : (h k : ℕ) → (tableIn file).size ≤ h → walked file cut (pairCount file) h k ≡ false
+  pub as_asked : (h k : ℕ) → walked file cut (pair_count_lem file) h k ≡ is_near (table_in file) cut h k
+  pub none-outside : (h k : ℕ) → (table_in file).size ≤ h → walked file cut (pair_count_lem file) h k ≡ false

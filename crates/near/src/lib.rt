@@ -1,14 +1,12 @@
 // The symbols near each symbol of a heading.
-#![tactic(auto)]
-
 ghost use Rattle.std.specs.Prelude.{◌≡◌, ℕ, ◌+◌, ◌-◌, ◌*◌, ◌<◌, ◌≤◌, max, length, get_or};
-ghost use Rattle.meaning.specs.Limits.{setWords, setRoom};
-ghost use Rattle.meaning.specs.File.{tableIn};
+ghost use Rattle.meaning.specs.Limits.{set_words_lem, set_room};
+ghost use Rattle.meaning.specs.File.{table_in};
 ghost use Rattle.meaning.specs.Refusals.{SoundFile};
 ghost use Rattle.meaning.specs.Over.{over};
 ghost use Rattle.meaning.specs.Calls.{zeros};
 ghost use Rattle.meaning.specs.Buffers.{member};
-ghost use Rattle.near.specs.Near.{nearWords, in_row, kept, Fresh, Kept, NearSets, Ready, Alone, Opened, OwnJoined, Joined, PairJoined};
+ghost use Rattle.near.specs.Near.{near_words, in_row, kept, Fresh, Kept, NearSets, Ready, Alone, Opened, OwnJoined, Joined, PairJoined};
 
 use sets::SymbolSet;
 use table::read::{Pair, pair_count, pair_from, symbol_count};
@@ -41,8 +39,8 @@ fn greater(a: u64, b: u64) -> u64
 
 // The set of a symbol h whose set is gathered.
 pub fn set_of(near: &[u64], h: u16) -> SymbolSet
-    requires { nearWords * (h + 1) ≤ length near.now }
-    ensures { (k : ℕ) → k < setRoom → member result.words k ≡ in_row near.now h k }
+    requires { near_words * (h + 1) ≤ length near.now }
+    ensures { (k : ℕ) → k < set_room → member result.words k ≡ in_row near.now h k }
 {
     SymbolSet::read(near, NEAR_WORDS * h as usize)
 }
@@ -57,8 +55,8 @@ pub fn lowest_of(near: &[u64], h: u16) -> u16
 
 // Empties the set whose words begin here.
 fn clear_set(near: &mut [u64], at: usize)
-    requires { at + setWords ≤ length near.old }
-    ensures { near.new ≡ over near.old at (zeros setWords) }
+    requires { at + set_words_lem ≤ length near.old }
+    ensures { near.new ≡ over near.old at (zeros set_words_lem) }
 {
     for w in 0..SymbolSet::WORDS {
         near[at + w] = 0;
@@ -67,7 +65,7 @@ fn clear_set(near: &mut [u64], at: usize)
 
 // Begins the set of symbol h, unless that is gathered. Its words are written anew, so that whatever stood there is gone.
 fn open(near: &mut [u64], h: u16)
-    requires { (nearWords * (h + 1) ≤ length near.old) × (h < setRoom) }
+    requires { (near_words * (h + 1) ≤ length near.old) × (h < set_room) }
     ensures { Opened h near.old near.new }
 {
     let at = NEAR_WORDS * h as usize;
@@ -92,7 +90,7 @@ fn open_sets(heading: &[u16], near: &mut [u64])
 // Puts symbol k into the set of the symbol whose own words these are and which it has this degree with, if that set is gathered. One bit is
 // set in place, so that this costs the same however many words a set has.
 fn join_own(own: &mut [u64], k: u16, degree: u16)
-    requires { (nearWords ≤ length own.old) × (k < setRoom) × (degree ≤ 1000) }
+    requires { (near_words ≤ length own.old) × (k < set_room) × (degree ≤ 1000) }
     ensures { OwnJoined k degree own.old own.new }
 {
     if own[SymbolSet::WORDS] != NOT_GATHERED {
@@ -104,7 +102,7 @@ fn join_own(own: &mut [u64], k: u16, degree: u16)
 
 // Puts symbol k, which has this degree with symbol h, into the set of h, if that is gathered.
 fn join(near: &mut [u64], h: u16, k: u16, degree: u16)
-    requires { (nearWords * (h + 1) ≤ length near.old) × (k < setRoom) × (degree ≤ 1000) }
+    requires { (near_words * (h + 1) ≤ length near.old) × (k < set_room) × (degree ≤ 1000) }
     ensures { Joined h k degree near.old near.new }
 {
     let at = NEAR_WORDS * h as usize;
@@ -113,8 +111,8 @@ fn join(near: &mut [u64], h: u16, k: u16, degree: u16)
 
 // Puts the symbols of a pair into each other's sets, if its degree reaches the cut.
 fn join_pair(near: &mut [u64], pair: Pair, cut: u16)
-    requires lower_lt_set_room { (pair.lower < setRoom) × (pair.higher < setRoom) × (pair.degree ≤ 1000) }
-    requires lower_in_bounds { (nearWords * (pair.lower + 1) ≤ length near.old) × (nearWords * (pair.higher + 1) ≤ length near.old) }
+    requires lower_lt_set_room { (pair.lower < set_room) × (pair.higher < set_room) × (pair.degree ≤ 1000) }
+    requires lower_in_bounds { (near_words * (pair.lower + 1) ≤ length near.old) × (near_words * (pair.higher + 1) ≤ length near.old) }
     ensures { PairJoined cut pair.lower pair.higher pair.degree near.old near.new }
 {
     if cut <= pair.degree {
@@ -126,9 +124,9 @@ fn join_pair(near: &mut [u64], pair: Pair, cut: u16)
 // Gathers the sets of the symbols of the heading, in a list in which none is gathered yet. One look at each pair serves both its symbols.
 pub fn near_sets(file: &[u8], cut: u16, heading: &[u16], near: &mut [u64])
     requires sound_file { SoundFile file.now × (0 < cut) × (cut ≤ 1000) }
-    requires by_index { (i : ℕ) → i < length heading.now → get_or heading.now i 0 < (tableIn file.now).size }
-    requires fresh { Fresh (tableIn file.now) near.old }
-    ensures { NearSets (tableIn file.now) cut heading.now near.new }
+    requires by_index { (i : ℕ) → i < length heading.now → get_or heading.now i 0 < (table_in file.now).size }
+    requires fresh { Fresh (table_in file.now) near.old }
+    ensures { NearSets (table_in file.now) cut heading.now near.new }
 {
     open_sets(heading, near);
     let mut at = HEADER + symbol_count(file) as usize;

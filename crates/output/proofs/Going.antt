@@ -10,8 +10,8 @@ use Rattle.refusal.specs.Outcomes.{result_of}
 use Rattle.lines.specs.declared.line.Cursor.{Cursor}
 use Rattle.lines.specs.declared.line.Cursor.TheVariants.{First, End}
 use Rattle.lines.specs.declared.filling.Filled.{Filled}
-use Rattle.lines.specs.Lines.{lineRoom, textIn, rest_at, OnLine, Spanned}
-use Rattle.lines.specs.Lengths.{mostSets, most_text}
+use Rattle.lines.specs.Lines.{line_room, text_in, rest_at, OnLine, Spanned}
+use Rattle.lines.specs.Lengths.{most_sets, most_text}
 use Rattle.lines.specs.Filling.{FilledBy}
 use Rattle.lines.proofs.Rest.{rest_start, rest_end}
 use Rattle.lines.proofs.Lengths.{text_short}
@@ -22,7 +22,7 @@ use Rattle.output.proofs.Saying.{passed_put, passed_none, passed_out, passed_the
 
 module _ (outcome : Outcome) (spans sets : List ℕ) where
   abbrev whole : List ℕ
-  whole = textIn (result_of outcome spans sets)
+  whole = text_in (result_of outcome spans sets)
 
   abbrev rest : Cursor → List ℕ
   rest = rest_at outcome spans sets
@@ -55,7 +55,7 @@ module _ (outcome : Outcome) (spans sets : List ℕ) where
         }
 
     -- LAW: it leaves less
-    pub going_less : (gone left : ℕ) (r : Filled) (out' : List ℕ) → lineRoom ≤ length before → HandedOver end (Bytes gone left)
+    pub going_less : (gone left : ℕ) (r : Filled) (out' : List ℕ) → line_room ≤ length before → HandedOver end (Bytes gone left)
         → FilledBy outcome spans sets cursor out left r out' → length (rest r.cursor) < length (rest cursor)
     going_less gone left r out' room all f =
         fill_less outcome spans sets cursor out r out' (subst (λ n. FilledBy outcome spans sets cursor out n r out') all.1 f) g.on (omega (arith, room, g.passed.same)) on_way
@@ -86,5 +86,5 @@ module _ (outcome : Outcome) (spans sets : List ℕ) where
     going_failed on_way = λ room. on_way (g.over (at_once room)).0
 
     -- LAW: what was handed over and what stands there can be counted
-    pub going_count : Spanned spans sets → length sets ≤ mostSets → written + end ≤ used + most_text
+    pub going_count : Spanned spans sets → length sets ≤ most_sets → written + end ≤ used + most_text
     going_count spanned few = omega (arith, g.passed.counted, f.put.ends, long, text_short outcome spans sets spanned few)

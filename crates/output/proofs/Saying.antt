@@ -11,10 +11,10 @@ use lib.Seq.{length-take-le, take_at, drop-append-le, drop-drop}
 use Rattle.meaning.specs.Over.{over}
 use Rattle.meaning.proofs.Over.{length_over}
 use Rattle.text.specs.Texts.{PutBy}
-use Rattle.lines.specs.Lines.{lineRoom}
+use Rattle.lines.specs.Lines.{line_room}
 use Rattle.output.specs.declared.pending.Pending.{Pending}
 use Rattle.output.specs.declared.pending.Pending.TheVariants.{Bytes, Failed}
-use Rattle.output.specs.Pendings.{Passed, Said, HandedOver, Settled, Roomy, handed, withWritten}
+use Rattle.output.specs.Pendings.{Passed, Said, HandedOver, Settled, Roomy, handed, with_written_lem}
 
 -- LAW: a text that is put behind what stands there
 pub passed_put : {before : List ℕ} {used : ℕ} {text : List ℕ} {end : ℕ} {after : List ℕ} → PutBy before used text end after → Passed before used text 0 end after
@@ -57,8 +57,8 @@ passed_settled before used false r {written} {end} l stays e =
     subst (λ n. Passed before used [] n end before) none (subst (λ n. Passed before used [] 0 n before) same (passed_none l))
 
 -- LAW: where there is no room for a line, and then there is
-pub said_out : (before : List ℕ) (used : ℕ) (r : Pending) → used ≤ length before → length before < used + lineRoom → lineRoom ≤ length before → HandedOver used r
-    → Said before used [] r before × Roomy (length before) lineRoom r
+pub said_out : (before : List ℕ) (used : ℕ) (r : Pending) → used ≤ length before → length before < used + line_room → line_room ≤ length before → HandedOver used r
+    → Said before used [] r before × Roomy (length before) line_room r
 said_out before used (Bytes written end) l full room all = ((passed_out l all, λ spare. absurd (omega arith)), omega (arith, all.1))
 said_out before used Failed l full room all = ((λ spare. omega arith), tt)
 
@@ -83,7 +83,7 @@ passed_then {before} {used} {t₁} {t₂} {mid} {after} {w} {e} {w'} {e'} {n} in
 module _ (before : List ℕ) (used : ℕ) (t₁ t₂ mid after : List ℕ) where
   -- LAW: said one after the other
   pub said_then : {w e : ℕ} → used ≤ length before → Said before used t₁ (Bytes w e) mid → (r : Pending) → Said mid e t₂ r after
-      → Said before used (t₁ ++ t₂) (withWritten w r) after
+      → Said before used (t₁ ++ t₂) (with_written_lem w r) after
   said_then {w} {e} inside (p, first) (Bytes w' e') (q, second) = (
     passed_then inside p q refl,
     λ room.

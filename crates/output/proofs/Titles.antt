@@ -9,7 +9,7 @@ use Rattle.meaning.specs.Program.{digits, line}
 use Rattle.text.specs.Texts.{PutBy}
 use Rattle.text.proofs.Puts.{put_then}
 use Rattle.lines.proofs.Lengths.{digits_short}
-use Rattle.output.specs.Titles.{question_word, titleText, titleRoom}
+use Rattle.output.specs.Titles.{question_word, title_text, title_room}
 
 -- LAW: one text for another that is the same
 pub put_same : {a b text more : List ℕ} {at n : ℕ} → text ≡ more → PutBy a at text n b → PutBy a at more n b
@@ -29,6 +29,6 @@ module _ (word : List ℕ) (k : ℕ) where
       put_same parts (put_then (put_then first number l) end (m ∙ l))
 
 -- LAW: no title is longer
-pub title_short : (k : ℕ) → length (titleText k) ≤ titleRoom
-unfolding titleText
+pub title_short : (k : ℕ) → length (title_text k) ≤ title_room
+unfolding title_text
 title_short k = numbered_short question_word k

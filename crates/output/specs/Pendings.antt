@@ -1,7 +1,7 @@
 -- What stands in a buffer and is still to be written, and what saying a text comes to: it goes behind what stands there, and of the two together the
 -- first bytes are handed over to be written.
 use Rattle.std.specs.Prelude.{◌≡◌, List, ◌++◌, Bool, true, false, ℕ, ◌+◌, ◌≤◌, length, take, drop}
-use Rattle.lines.specs.Lines.{lineRoom}
+use Rattle.lines.specs.Lines.{line_room}
 use Rattle.lines.specs.declared.line.Cursor.{Cursor}
 use Rattle.lines.specs.declared.line.Cursor.TheVariants.{First, Variable, Position, End}
 use Rattle.output.specs.declared.pending.Pending.{Pending}
@@ -17,7 +17,7 @@ pub record Passed (before : List ℕ) (used : ℕ) (text : List ℕ) (written en
 
 -- The text has room behind what stands in the buffer, with a line's room to spare.
 abbrev pub HasRoom : List ℕ → ℕ → List ℕ → Type 0
-HasRoom before used text = used + length text + lineRoom ≤ length before
+HasRoom before used text = used + length text + line_room ≤ length before
 
 -- The text is said. For one that has room nothing is handed over, so that it lies behind the bytes that stood there, and no write can fail.
 abbrev pub Said : List ℕ → ℕ → List ℕ → Pending → List ℕ → Type 0
@@ -45,9 +45,9 @@ abbrev pub handed : Pending → ℕ
 handed (Bytes written end) = written
 handed Failed = 0
 
-abbrev pub withWritten : ℕ → Pending → Pending
-withWritten more (Bytes written end) = Bytes (more + written) end
-withWritten more Failed = Failed
+abbrev pub with_written_lem : ℕ → Pending → Pending
+with_written_lem more (Bytes written end) = Bytes (more + written) end
+with_written_lem more Failed = Failed
 
 abbrev pub is_over : Cursor → Bool
 is_over First = false

@@ -13,13 +13,13 @@ abbrev pub off_word : List ℕ
 off_word = 111 ∷ 102 ∷ 102 ∷ []
 
 -- The line with a question's number, which may have twenty digits.
-unfoldable pub titleText : ℕ → List ℕ
-titleText k = line (question_word ∷ digits 20 k [] ∷ [])
+unfoldable pub title_text : ℕ → List ℕ
+title_text k = line (question_word ∷ digits 20 k [] ∷ [])
 
 -- The line of a question that ends before its last byte.
-abbrev pub cutOffText : List ℕ
-cutOffText = line (cut_word ∷ off_word ∷ [])
+abbrev pub cut_off_text : List ℕ
+cut_off_text = line (cut_word ∷ off_word ∷ [])
 
 -- A title has no more bytes.
-abbrev pub titleRoom : ℕ
-titleRoom = 30
+abbrev pub title_room : ℕ
+title_room = 30

@@ -1,9 +1,9 @@
 // Text to standard output, by way of a buffer.
 ghost use Rattle.std.specs.Prelude.{◌≡◌, ◌+◌, ◌≤◌, ◌<◌, length};
 ghost use Rattle.refusal.specs.Outcomes.{result_of};
-ghost use Rattle.lines.specs.Lines.{lineRoom, textIn, Spanned};
-ghost use Rattle.lines.specs.Lengths.{mostSets};
-ghost use Rattle.output.specs.Pendings.{Said, HandedOver, Settled, handed, withWritten, is_over};
+ghost use Rattle.lines.specs.Lines.{line_room, text_in, Spanned};
+ghost use Rattle.lines.specs.Lengths.{most_sets};
+ghost use Rattle.output.specs.Pendings.{Said, HandedOver, Settled, handed, with_written_lem, is_over};
 ghost use Rattle.output.specs.Turns.{MustWrite};
 
 use lines::filling::fill;
@@ -54,7 +54,7 @@ pub fn settle(out: &[u8], used: usize, waits: bool) -> Pending
 // What was handed over before counts too.
 pub fn with_written(more: usize, pending: Pending) -> Pending
     requires { more + handed pending < 18446744073709551616 }
-    ensures { result ≡ withWritten more pending }
+    ensures { result ≡ with_written_lem more pending }
 {
     match pending {
         Pending::Bytes(written, end) => Pending::Bytes(more + written, end),
@@ -81,9 +81,9 @@ pub fn put_answer(
     out: &mut [u8],
     used: usize,
 ) -> Pending
-    requires spanned { Spanned spans.now sets.now × (length sets.now ≤ mostSets) }
-    requires used_in_bounds { (used ≤ length out.old) × (lineRoom ≤ length out.old) }
-    ensures { Said out.old used (textIn (result_of outcome spans.now sets.now)) result out.new }
+    requires spanned { Spanned spans.now sets.now × (length sets.now ≤ most_sets) }
+    requires used_in_bounds { (used ≤ length out.old) × (line_room ≤ length out.old) }
+    ensures { Said out.old used (text_in (result_of outcome spans.now sets.now)) result out.new }
 {
     let filled = fill(outcome, spans, sets, Cursor::First, out, used);
     let mut written = 0;

@@ -1,10 +1,10 @@
 // What is said of each question: a line with its number, and behind it why there is no answer.
 ghost use Rattle.std.specs.Prelude.{[], ◌++◌, ◌+◌, ◌-◌, ◌≤◌, length};
-ghost use Rattle.meaning.specs.Program.{refusedText};
+ghost use Rattle.meaning.specs.Program.{refused_text};
 ghost use Rattle.text.specs.Texts.{PutBy};
-ghost use Rattle.lines.specs.Lines.{lineRoom};
+ghost use Rattle.lines.specs.Lines.{line_room};
 ghost use Rattle.output.specs.Pendings.{Said, Roomy};
-ghost use Rattle.output.specs.Titles.{titleText, cutOffText, titleRoom};
+ghost use Rattle.output.specs.Titles.{title_text, cut_off_text, title_room};
 
 use crate::long::put_long;
 use crate::pending::{Pending, put_answer, with_written, write_out};
@@ -14,8 +14,8 @@ use text::{put_byte, put_text};
 
 // Writes the buffer out if it has no room for a line.
 pub fn make_room(out: &[u8], used: usize) -> Pending
-    requires { (used ≤ length out.now) × (lineRoom ≤ length out.now) }
-    ensures { Said out.now used [] result out.now × Roomy (length out.now) lineRoom result }
+    requires { (used ≤ length out.now) × (line_room ≤ length out.now) }
+    ensures { Said out.now used [] result out.now × Roomy (length out.now) line_room result }
 {
     if out.len() - used >= LINE_ROOM {
         return Pending::Bytes(0, used);
@@ -25,8 +25,8 @@ pub fn make_room(out: &[u8], used: usize) -> Pending
 
 // The line with the question's number.
 fn put_title(k: u64, out: &mut [u8], at: usize) -> usize
-    requires { at + lineRoom ≤ length out.old }
-    ensures { PutBy out.old at (titleText k) result out.new }
+    requires { at + line_room ≤ length out.old }
+    ensures { PutBy out.old at (title_text k) result out.new }
 {
     let word_end = put_text(out, at, b"question ");
     let number_end = put_long(out, word_end, k);
@@ -35,8 +35,8 @@ fn put_title(k: u64, out: &mut [u8], at: usize) -> usize
 
 // Behind the title there is still room for a short line.
 pub fn say_title(k: u64, out: &mut [u8], used: usize) -> Pending
-    requires { (used ≤ length out.old) × (lineRoom ≤ length out.old) }
-    ensures { Said out.old used (titleText k) result out.new × Roomy (length out.old) (lineRoom - titleRoom) result }
+    requires { (used ≤ length out.old) × (line_room ≤ length out.old) }
+    ensures { Said out.old used (title_text k) result out.new × Roomy (length out.old) (line_room - title_room) result }
 {
     match make_room(out, used) {
         Pending::Bytes(written, at) => Pending::Bytes(written, put_title(k, out, at)),
@@ -45,8 +45,8 @@ pub fn say_title(k: u64, out: &mut [u8], used: usize) -> Pending
 }
 
 pub fn say_cut_off(k: u64, out: &mut [u8], used: usize) -> Pending
-    requires { (used ≤ length out.old) × (lineRoom ≤ length out.old) }
-    ensures { Said out.old used (titleText k ++ cutOffText) result out.new }
+    requires { (used ≤ length out.old) × (line_room ≤ length out.old) }
+    ensures { Said out.old used (title_text k ++ cut_off_text) result out.new }
 {
     match say_title(k, out, used) {
         Pending::Bytes(written, at) => Pending::Bytes(written, put_text(out, at, b"cut off\n")),
@@ -55,8 +55,8 @@ pub fn say_cut_off(k: u64, out: &mut [u8], used: usize) -> Pending
 }
 
 pub fn say_too_long(k: u64, out: &mut [u8], used: usize) -> Pending
-    requires { (used ≤ length out.old) × (lineRoom ≤ length out.old) }
-    ensures { Said out.old used (titleText k ++ refusedText 12 0) result out.new }
+    requires { (used ≤ length out.old) × (line_room ≤ length out.old) }
+    ensures { Said out.old used (title_text k ++ refused_text 12 0) result out.new }
 {
     let spans = [0u16; 128];
     // a refusal has no set to print

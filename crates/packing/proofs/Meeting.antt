@@ -16,10 +16,10 @@ use Rattle.theory.proofs.Along.{Known, Faced, size_positive}
 use Rattle.theory.proofs.Gathered.{Gathers, gather_same}
 use Rattle.theory.proofs.Growing.{facing-append}
 use Rattle.theory.proofs.Lemmas.{all_get_d}
-use Rattle.meaning.specs.Limits.{setWords, variableCount, spanWidth}
-use Rattle.meaning.specs.File.{tableIn}
+use Rattle.meaning.specs.Limits.{set_words_lem, variable_count, span_width}
+use Rattle.meaning.specs.File.{table_in}
 use Rattle.meaning.specs.Packing.{firsts, variables, order, count_of, sum, among, packed_count}
-use Rattle.meaning.specs.Calls.{zeros, facesIn}
+use Rattle.meaning.specs.Calls.{zeros, faces_in}
 use Rattle.meaning.proofs.Loop.{variables_symbol, order_variable, sum_last}
 use Rattle.meaning.proofs.Ordered.{order_symbol, order_met, order_new}
 use Rattle.meaning.proofs.NoOverlap.{packed_few_read}
@@ -70,7 +70,7 @@ stands_somewhere {fs = fs} {i = i} {v = v} g =
 -- variable v stands at node i and at none before, and there is room for it behind so many positions
 pub record NewAt (T : Table) (fs : List Face) (room i v packed : ℕ) : Type 0 where
   pub gathers : Gathers T fs i v
-  pub below : v < variableCount
+  pub below : v < variable_count
   pub new : among v (order (take i fs)) ≡ false
   pub some : 0 < count_of fs v
   pub fits : packed + count_of fs v ≤ room
@@ -79,21 +79,21 @@ module _ (table pattern heading : List ℕ) (cut : ℕ) where
   -- the variables of the first i nodes are packed
   abbrev pub PackedAlong : ℕ → ℕ → List ℕ → Search → List ℕ → List ℕ → Type 0
   PackedAlong i n before search spans sets =
-      let fs = facesIn table pattern heading in
-      Searched (tableIn table) cut fs (order (take i fs)) n before search spans sets
+      let fs = faces_in table pattern heading in
+      Searched (table_in table) cut fs (order (take i fs)) n before search spans sets
 
 module _ {table pattern heading : List ℕ} {cut : ℕ} {notes : List ℕ} (k : Packable table pattern heading cut notes) where
   abbrev T : Table
-  T = tableIn table
+  T = table_in table
 
   abbrev fs : List Face
-  fs = facesIn table pattern heading
+  fs = faces_in table pattern heading
 
   abbrev Done : ℕ → ℕ → List ℕ → Search → List ℕ → List ℕ → Type 0
   Done = PackedAlong table pattern heading cut
 
   all_fit : sum (count_of fs) (order fs) ≤ length heading
-  unfolding facesIn packed_count
+  unfolding faces_in packed_count
   all_fit = packed_few_read (reads k) cut k.positive k.clear
 
   module _ {i n : ℕ} {before : List ℕ} {search : Search} {spans sets : List ℕ} (h : Done i n before search spans sets) where
@@ -120,18 +120,18 @@ module _ {table pattern heading : List ℕ} {cut : ℕ} {notes : List ℕ} (k : 
         gathers : Gathers T fs i v
         gathers = gather_same (nodes_face k) i v l (variable_kind T.size (get_or pattern i 0) v is).0
 
-        below : v < variableCount
+        below : v < variable_count
         below = (variable_kind T.size (get_or pattern i 0) v is).1
 
-        count_is : get_or spans (spanWidth * v + 1) 0 ≡ get_or (spans_in T cut fs (order (take i fs)) ++ zeros n) (spanWidth * v + 1) 0
-        count_is = ap (λ l. get_or l (spanWidth * v + 1) 0) h.spanned
+        count_is : get_or spans (span_width * v + 1) 0 ≡ get_or (spans_in T cut fs (order (take i fs)) ++ zeros n) (span_width * v + 1) 0
+        count_is = ap (λ l. get_or l (span_width * v + 1) 0) h.spanned
 
         -- LAW: at a variable that has a span
-        pub along_met : (get_or spans (spanWidth * v + 1) 0 ≡ 0 → ⊥) → Done (i + 1) n before search spans sets
+        pub along_met : (get_or spans (span_width * v + 1) 0 ≡ 0 → ⊥) → Done (i + 1) n before search spans sets
         along_met some = same-order (order_met gathers (span_some T cut fs (order (take i fs)) v (zeros n) below (λ e. some (count_is ∙ e))))
 
         -- LAW: at a variable that has none
-        pub new_at : get_or spans (spanWidth * v + 1) 0 ≡ 0 → NewAt T fs (length heading) i v search.packed
+        pub new_at : get_or spans (span_width * v + 1) 0 ≡ 0 → NewAt T fs (length heading) i v search.packed
         new_at none =
             let some = stands_somewhere gathers in
             let new = span_none T cut fs (order (take i fs)) v (zeros n) below some (inv count_is ∙ none) in
@@ -152,7 +152,7 @@ module _ {table pattern heading : List ℕ} {cut : ℕ} {notes : List ℕ} (k : 
             }
 
       -- LAW: once it is packed
-      pub along_new : {v : ℕ} {after : Search} {spans' sets' : List ℕ} → NewAt T fs (length heading) i v search.packed → setWords * length heading ≤ length before
+      pub along_new : {v : ℕ} {after : Search} {spans' sets' : List ℕ} → NewAt T fs (length heading) i v search.packed → set_words_lem * length heading ≤ length before
           → PackedNext T cut (facing v fs) v search after spans spans' sets sets' → Done (i + 1) n before after spans' sets'
       along_new {v} w r p =
           rw (order_new w.gathers w.new) (searched_next T cut fs n before (order (take i fs)) v h w.new w.below (omega (arith, w.fits)) p)

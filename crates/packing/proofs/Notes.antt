@@ -21,19 +21,19 @@ use Rattle.theory.proofs.Draw.{over-at}
 use Rattle.theory.proofs.Gathered.{at_node}
 use Rattle.theory.proofs.Noted.{gathered_front}
 use Rattle.theory.proofs.Along.{Readable, Faced}
-use Rattle.meaning.specs.Limits.{setWords, spanWidth}
-use Rattle.meaning.specs.File.{tableIn}
+use Rattle.meaning.specs.Limits.{set_words_lem, span_width}
+use Rattle.meaning.specs.File.{table_in}
 use Rattle.meaning.specs.Packing.{through, count_of, all_words_lem}
-use Rattle.meaning.specs.Calls.{facesIn}
-use Rattle.meaning.specs.Search.{symbolWorth}
+use Rattle.meaning.specs.Calls.{faces_in}
+use Rattle.meaning.specs.Search.{symbol_worth}
 use Rattle.meaning.specs.Over.{over}
 use Rattle.meaning.proofs.Sound.{sound}
-use Rattle.near.specs.Near.{nearWords, NearSets}
+use Rattle.near.specs.Near.{near_words, NearSets}
 use Rattle.facing.specs.Faced.{ClearBy}
 use Rattle.facing.specs.Gathering.{GatheredBy}
 use Rattle.facing.proofs.Faced.{faced_in, gathered_in}
 use Rattle.facing.proofs.Passing.{readable, few_nodes}
-use Rattle.positions.specs.Position.{noteCount, Covers, NearOf}
+use Rattle.positions.specs.Position.{note_count, Covers, NearOf}
 use Rattle.variable.specs.Variable.{PackedTo, OwnNotes}
 use Rattle.variable.proofs.Positions.{positions-first}
 use Rattle.variable.specs.declared.Found.{Found}
@@ -63,9 +63,9 @@ module _ (out : List ℕ) (at : ℕ) (inside : at ≤ length out) where
 
 -- LAW: once it is packed, and noted
 pub noted_next : {T : Table} {cut : ℕ} {ts : List Term} {v first : ℕ} {search after : Search} {found : Found} {spans spans' sets part sets' : List ℕ}
-    → setWords * search.packed ≤ length sets
-    → PackedTo T cut ts (positions ts) (take (length sets - setWords * search.packed) (drop (setWords * search.packed) sets)) part found.formed found.lowest found.highest
-    → sets' ≡ put_mid (setWords * search.packed) (length sets - setWords * search.packed) sets part → positions ts ≡ first
+    → set_words_lem * search.packed ≤ length sets
+    → PackedTo T cut ts (positions ts) (take (length sets - set_words_lem * search.packed) (drop (set_words_lem * search.packed) sets)) part found.formed found.lowest found.highest
+    → sets' ≡ put_mid (set_words_lem * search.packed) (length sets - set_words_lem * search.packed) sets part → positions ts ≡ first
     → VariableNoted v first search found after spans spans' → PackedNext T cut ts v search after spans spans' sets sets'
 noted_next {T} {cut} {ts} {v} {search = search} {spans = spans} {sets = sets} room p laid is noted =
     record {
@@ -80,19 +80,19 @@ noted_next {T} {cut} {ts} {v} {search = search} {spans = spans} {sets = sets} ro
     }
   where
     at : ℕ
-    at = setWords * search.packed
+    at = set_words_lem * search.packed
 
     packed : List ℕ
     packed = all_words_lem (through (positions ts) (λ k. in_set T cut ts k ∷ []))
 
     numbers : {n m l g l' g' : ℕ} → n ≡ m → l ≡ l' → g ≡ g'
-        → over spans (spanWidth * v) (search.packed ∷ n ∷ l ∷ g ∷ []) ≡ over spans (spanWidth * v) (search.packed ∷ m ∷ l' ∷ g' ∷ [])
+        → over spans (span_width * v) (search.packed ∷ n ∷ l ∷ g ∷ []) ≡ over spans (span_width * v) (search.packed ∷ m ∷ l' ∷ g' ∷ [])
     numbers a b c = cc
 
 -- ---- the notes of all
 
 module _ {table pattern heading : List ℕ} {cut : ℕ} {notes : List ℕ} (k : Packable table pattern heading cut notes) where
-  pub reads : Readable (tableIn table) pattern heading
+  pub reads : Readable (table_in table) pattern heading
   reads = readable table pattern heading k.sound k.pattern_reads k.heading_reads
 
   -- LAW: the heading has few nodes
@@ -100,9 +100,9 @@ module _ {table pattern heading : List ℕ} {cut : ℕ} {notes : List ℕ} (k : 
   short = few_nodes reads
 
   -- LAW: every node of the heading is a symbol
-  pub symbols : (i : ℕ) → i < length heading → get_or heading i 0 < (tableIn table).size
+  pub symbols : (i : ℕ) → i < length heading → get_or heading i 0 < (table_in table).size
   symbols i l =
-      let T = tableIn table in
+      let T = table_in table in
       let t = term_of T heading in
       let h = heading_of_lem T reads.small heading k.heading_reads in
       let n : i < size t = omega (arith, ap length h.1) in
@@ -111,16 +111,16 @@ module _ {table pattern heading : List ℕ} {cut : ℕ} {notes : List ℕ} (k : 
       let here = ap (λ (j : ℕ). get_or heading j 0) (zero-add i) in
       omega arith
 
-  clear_by : ClearBy table cut pattern heading (least (symbolWorth (tableIn table)) (facesIn table pattern heading)) notes
+  clear_by : ClearBy table cut pattern heading (least (symbol_worth (table_in table)) (faces_in table pattern heading)) notes
   clear_by = record { clear = k.clear; lowest = refl; noted = k.noted }
 
   -- LAW: every node of the pattern faces something
-  pub nodes_face : Faced (tableIn table) pattern (facesIn table pattern heading) (length pattern)
+  pub nodes_face : Faced (table_in table) pattern (faces_in table pattern heading) (length pattern)
   nodes_face = faced_in table cut pattern heading notes reads k.positive clear_by
 
-  module _ {near : List ℕ} (room : nearWords * (tableIn table).size ≤ length near) (sets : NearSets (tableIn table) cut heading near) where
+  module _ {near : List ℕ} (room : near_words * (table_in table).size ≤ length near) (sets : NearSets (table_in table) cut heading near) where
     -- LAW: the near sets are those of the table at the cut
-    pub near_of : NearOf (tableIn table) cut near heading
+    pub near_of : NearOf (table_in table) cut near heading
     near_of =
         record {
           lawful = reads.lawful;
@@ -136,21 +136,21 @@ module _ {table pattern heading : List ℕ} {cut : ℕ} {notes : List ℕ} (k : 
     covers i l =
         (omega (arith, symbols i l), (sets i l).gathered, (sets i l).within, omega (arith, symbols i l, (sound table k.sound).small))
 
-    module _ {v n : ℕ} {own : List ℕ} (g : GatheredBy pattern notes v n own) (some : 0 < count_of (facesIn table pattern heading) v) (enough : 2 * n ≤ length own) where
+    module _ {v n : ℕ} {own : List ℕ} (g : GatheredBy pattern notes v n own) (some : 0 < count_of (faces_in table pattern heading) v) (enough : 2 * n ≤ length own) where
       abbrev part : List ℕ
       part = take (2 * n) own
 
-      count : noteCount part ≡ n
+      count : note_count part ≡ n
       count = omega (arith, length-take-le (2 * n) own enough)
 
       -- LAW: what is gathered for a variable that stands in the pattern is of the subterms that face it
-      pub gathered_own : Gathered heading part (noteCount part) (facing v (facesIn table pattern heading))
+      pub gathered_own : Gathered heading part (note_count part) (facing v (faces_in table pattern heading))
       gathered_own = rw count (gathered_front (gathered_in table cut pattern heading notes reads k.positive clear_by g))
 
-      some_notes : 0 < noteCount part
-      some_notes = go (facing v (facesIn table pattern heading)) gathered_own some
+      some_notes : 0 < note_count part
+      some_notes = go (facing v (faces_in table pattern heading)) gathered_own some
         where
-          go : (ts : List Term) → Gathered heading part (noteCount part) ts → 0 < positions ts → 0 < noteCount part
+          go : (ts : List Term) → Gathered heading part (note_count part) ts → 0 < positions ts → 0 < note_count part
           go [] h l = absurd (not-suc-le-zero l)
           go (t ∷ ts) h l = omega (arith, h.count)
 
@@ -159,5 +159,5 @@ module _ {table pattern heading : List ℕ} {cut : ℕ} {notes : List ℕ} (k : 
       own_notes =
           record { covers = covers; symbols = symbols; few = short; within = λ o l. (gathered_own.each o l).inside; some = some_notes }
 
-      pub own_first : count_of (facesIn table pattern heading) v ≡ size_of part 0
+      pub own_first : count_of (faces_in table pattern heading) v ≡ size_of part 0
       own_first = positions-first gathered_own some_notes

@@ -12,10 +12,10 @@ use Rattle.theory.specs.Least.{least}
 use Rattle.theory.specs.Faces.{Face, facing}
 use Rattle.theory.specs.Match.{formed, lowest_for, highest_for}
 use Rattle.theory.proofs.Lemmas.{least_top}
-use Rattle.meaning.specs.Limits.{setWords, variableCount, spanWidth}
+use Rattle.meaning.specs.Limits.{set_words_lem, variable_count, span_width}
 use Rattle.meaning.specs.Packing.{through, order, count_of, sum, among, span_from, packed_count, sets_of, all_words_lem, packed_sets}
 use Rattle.meaning.specs.Calls.{zeros}
-use Rattle.meaning.specs.Search.{symbolWorth, unformed, worst}
+use Rattle.meaning.specs.Search.{symbol_worth, unformed, worst}
 use Rattle.meaning.specs.Over.{over}
 use Rattle.meaning.proofs.Lacking.{worst_bad, worst_good}
 use Rattle.meaning.proofs.Loop.{sum_last}
@@ -31,29 +31,29 @@ use Rattle.packing.proofs.Spans.{spans_in, spans_none, spans_next, spans_all}
 pub record Searched (T : Table) (cut : ℕ) (fs : List Face) (vs : List ℕ) (n : ℕ) (before : List ℕ) (search : Search) (spans sets : List ℕ) : Type 0 where
   pub many : search.packed ≡ sum (count_of fs) vs
   pub lacks : search.lacking ≡ worst (unformed T cut fs) vs
-  pub low : search.lowest ≡ min (least (symbolWorth T) fs) (least (λ v. lowest_for T cut (facing v fs)) vs)
-  pub high : search.highest ≡ min (least (symbolWorth T) fs) (least (λ v. highest_for T cut (facing v fs)) vs)
+  pub low : search.lowest ≡ min (least (symbol_worth T) fs) (least (λ v. lowest_for T cut (facing v fs)) vs)
+  pub high : search.highest ≡ min (least (symbol_worth T) fs) (least (λ v. highest_for T cut (facing v fs)) vs)
   pub spanned : spans ≡ spans_in T cut fs vs ++ zeros n
   pub words : sets ≡ over before 0 (all_words_lem (sets_of T cut fs vs))
 
 module _ (T : Table) (cut : ℕ) (fs : List Face) (n : ℕ) (before : List ℕ) where
   -- LAW: none is packed
-  pub searched_none : (base : ℕ) {spans : List ℕ} → base ≡ least (symbolWorth T) fs → spans ≡ zeros (spanWidth * variableCount + n)
-      → Searched T cut fs [] n before (record { packed = 0; lacking = variableCount; lowest = base; highest = base }) spans before
+  pub searched_none : (base : ℕ) {spans : List ℕ} → base ≡ least (symbol_worth T) fs → spans ≡ zeros (span_width * variable_count + n)
+      → Searched T cut fs [] n before (record { packed = 0; lacking = variable_count; lowest = base; highest = base }) spans before
   searched_none base e z =
       record {
         many = refl;
         lacks = refl;
-        low = omega (arith, least_top (symbolWorth T) fs);
-        high = omega (arith, least_top (symbolWorth T) fs);
+        low = omega (arith, least_top (symbol_worth T) fs);
+        high = omega (arith, least_top (symbol_worth T) fs);
         spanned = z ∙ spans_none T cut fs n;
         words = over_none before 0;
       }
 
   -- LAW: one variable more
   pub searched_next : (vs : List ℕ) (v : ℕ) {search after : Search} {spans spans' sets sets' : List ℕ}
-      → Searched T cut fs vs n before search spans sets → among v vs ≡ false → v < variableCount
-      → setWords * search.packed ≤ length before → PackedNext T cut (facing v fs) v search after spans spans' sets sets'
+      → Searched T cut fs vs n before search spans sets → among v vs ≡ false → v < variable_count
+      → set_words_lem * search.packed ≤ length before → PackedNext T cut (facing v fs) v search after spans spans' sets sets'
       → Searched T cut fs (vs ++ (v ∷ [])) n before after spans' sets'
   searched_next vs v {search} h new l room p =
       record {
@@ -62,9 +62,9 @@ module _ (T : Table) (cut : ℕ) (fs : List Face) (n : ℕ) (before : List ℕ) 
         low = omega (arith, p.lowest, h.low, least_last (λ v. lowest_for T cut (facing v fs)) vs v);
         high = omega (arith, p.highest, h.high, least_last (λ v. highest_for T cut (facing v fs)) vs v);
         spanned = p.span
-            ∙ ap (λ l. over l (spanWidth * v) (span_from T cut fs search.packed v)) h.spanned
+            ∙ ap (λ l. over l (span_width * v) (span_from T cut fs search.packed v)) h.spanned
             ∙ spans_next T cut fs vs v search.packed (zeros n) new l h.many;
-        words = over_next before 0 packed (setWords * search.packed) added h.words (rw zero-add p.words) (omega (arith, words_many T cut fs vs, h.many)) (omega arith)
+        words = over_next before 0 packed (set_words_lem * search.packed) added h.words (rw zero-add p.words) (omega (arith, words_many T cut fs vs, h.many)) (omega arith)
             ∙ ap (over before 0) behind;
       }
     where

@@ -13,7 +13,7 @@ use lib.Seq.{take_at, drop_at, drop-append-add}
 use borrow.Author.Tests.{eq-eqb, ne_eqb}
 use Rattle.theory.specs.Table.{Table}
 use Rattle.theory.specs.Faces.{Face}
-use Rattle.meaning.specs.Limits.{variableCount, spanWidth}
+use Rattle.meaning.specs.Limits.{variable_count, span_width}
 use Rattle.meaning.specs.Packing.{through, order, count_of, sum, among, span_from, span_in, packed_spans}
 use Rattle.meaning.specs.Calls.{zeros}
 use Rattle.meaning.specs.Over.{over}
@@ -80,20 +80,20 @@ module _ (T : Table) (cut : ℕ) (fs : List Face) where
   span_new vs v e = rw (among_last v v vs, e, eq-eqb v v refl, start_last (count_of fs) v vs e)
 
   unfoldable pub spans_in : List ℕ → List ℕ
-  spans_in vs = through variableCount (span_in T cut fs vs)
+  spans_in vs = through variable_count (span_in T cut fs vs)
 
   -- LAW: none
-  pub spans_none : (n : ℕ) → zeros (spanWidth * variableCount + n) ≡ spans_in [] ++ zeros n
+  pub spans_none : (n : ℕ) → zeros (span_width * variable_count + n) ≡ spans_in [] ++ zeros n
   unfolding spans_in
-  spans_none n = inv (replicate-append-replicate (spanWidth * variableCount) n 0)
+  spans_none n = inv (replicate-append-replicate (span_width * variable_count) n 0)
 
   -- LAW: one variable more
-  pub spans_next : (vs : List ℕ) (v first : ℕ) (rest : List ℕ) → among v vs ≡ false → v < variableCount → first ≡ sum (count_of fs) vs
-      → over (spans_in vs ++ rest) (spanWidth * v) (span_from T cut fs first v) ≡ spans_in (vs ++ (v ∷ [])) ++ rest
+  pub spans_next : (vs : List ℕ) (v first : ℕ) (rest : List ℕ) → among v vs ≡ false → v < variable_count → first ≡ sum (count_of fs) vs
+      → over (spans_in vs ++ rest) (span_width * v) (span_from T cut fs first v) ≡ spans_in (vs ++ (v ∷ [])) ++ rest
   unfolding spans_in
   spans_next vs v first rest e l f =
-      ap (over (through variableCount (span_in T cut fs vs) ++ rest) (spanWidth * v)) (ap (λ n. span_from T cut fs n v) f ∙ inv (span_new vs v e))
-      ∙ over-through (span_in T cut fs vs) (span_in T cut fs (vs ++ (v ∷ []))) spanWidth v (span_wide T cut fs vs) (span_wide T cut fs (vs ++ (v ∷ []))) (λ w. span_other vs v w) variableCount rest l
+      ap (over (through variable_count (span_in T cut fs vs) ++ rest) (span_width * v)) (ap (λ n. span_from T cut fs n v) f ∙ inv (span_new vs v e))
+      ∙ over-through (span_in T cut fs vs) (span_in T cut fs (vs ++ (v ∷ []))) span_width v (span_wide T cut fs vs) (span_wide T cut fs (vs ++ (v ∷ []))) (λ w. span_other vs v w) variable_count rest l
 
   order_spans : spans_in (order fs) ≡ packed_spans T cut fs
   unfolding spans_in packed_spans
@@ -107,14 +107,14 @@ module _ (T : Table) (cut : ℕ) (fs : List Face) where
       f ∙ ap (λ n. packed_spans T cut fs ++ zeros n) m
 
   -- the count in a variable's span
-  span_count : (vs : List ℕ) (v : ℕ) (rest : List ℕ) → v < variableCount → get_or (spans_in vs ++ rest) (spanWidth * v + 1) 0 ≡ get_or (span_in T cut fs vs v) 1 0
+  span_count : (vs : List ℕ) (v : ℕ) (rest : List ℕ) → v < variable_count → get_or (spans_in vs ++ rest) (span_width * v + 1) 0 ≡ get_or (span_in T cut fs vs v) 1 0
   unfolding spans_in
   span_count vs v rest l =
-      get_or-append (through variableCount (span_in T cut fs vs)) rest 0 (spanWidth * v + 1) (omega (arith, length-through (span_in T cut fs vs) spanWidth (span_wide T cut fs vs) 0 variableCount))
-      ∙ through-at (span_in T cut fs vs) spanWidth (span_wide T cut fs vs) 0 variableCount v 1 l (omega arith)
+      get_or-append (through variable_count (span_in T cut fs vs)) rest 0 (span_width * v + 1) (omega (arith, length-through (span_in T cut fs vs) span_width (span_wide T cut fs vs) 0 variable_count))
+      ∙ through-at (span_in T cut fs vs) span_width (span_wide T cut fs vs) 0 variable_count v 1 l (omega arith)
 
   -- LAW: it tells whether the variable is packed
-  pub span_none : (vs : List ℕ) (v : ℕ) (rest : List ℕ) → v < variableCount → 0 < count_of fs v → get_or (spans_in vs ++ rest) (spanWidth * v + 1) 0 ≡ 0
+  pub span_none : (vs : List ℕ) (v : ℕ) (rest : List ℕ) → v < variable_count → 0 < count_of fs v → get_or (spans_in vs ++ rest) (span_width * v + 1) 0 ≡ 0
       → among v vs ≡ false
   span_none vs v rest l some e = go (among v vs) refl
     where
@@ -122,7 +122,7 @@ module _ (T : Table) (cut : ℕ) (fs : List Face) where
       go true q = absurd (omega (arith, rw q at (inv (span_count vs v rest l) ∙ e)))
       go false q = q
 
-  pub span_some : (vs : List ℕ) (v : ℕ) (rest : List ℕ) → v < variableCount → (get_or (spans_in vs ++ rest) (spanWidth * v + 1) 0 ≡ 0 → ⊥) → among v vs ≡ true
+  pub span_some : (vs : List ℕ) (v : ℕ) (rest : List ℕ) → v < variable_count → (get_or (spans_in vs ++ rest) (span_width * v + 1) 0 ≡ 0 → ⊥) → among v vs ≡ true
   span_some vs v rest l e = go (among v vs) refl
     where
       go : (b : Bool) → among v vs ≡ b → among v vs ≡ true

@@ -7,14 +7,14 @@ use Rattle.theory.specs.Faces.{Face}
 use Rattle.theory.specs.Match.{positions, in_set, formed, clash, lowest_for, highest_for, lowest_of_lem, highest_of}
 use Rattle.theory.specs.Read.{reading, whole}
 use Rattle.theory.specs.Stands.{Noted}
-use Rattle.meaning.specs.Limits.{setWords, variableCount, spanWidth}
-use Rattle.meaning.specs.File.{tableIn}
+use Rattle.meaning.specs.Limits.{set_words_lem, variable_count, span_width}
+use Rattle.meaning.specs.File.{table_in}
 use Rattle.meaning.specs.Refusals.{SoundFile}
 use Rattle.meaning.specs.Packing.{through, order, packed_count, packed_spans, all_words_lem, packed_sets}
-use Rattle.meaning.specs.Calls.{zeros, facesIn}
+use Rattle.meaning.specs.Calls.{zeros, faces_in}
 use Rattle.meaning.specs.Search.{unformed, worst}
 use Rattle.meaning.specs.Over.{over}
-use Rattle.near.specs.Near.{nearWords, NearSets}
+use Rattle.near.specs.Near.{near_words, NearSets}
 use Rattle.variable.specs.declared.Found.{Found}
 use Rattle.packing.specs.declared.Search.{Search}
 
@@ -22,17 +22,17 @@ use Rattle.packing.specs.declared.Search.{Search}
 -- pattern's variables.
 pub record Packable (table pattern heading : List ℕ) (cut : ℕ) (notes : List ℕ) : Type 0 where
   pub sound : SoundFile table
-  pub pattern_reads : reading (tableIn table) true pattern ≡ whole
-  pub heading_reads : reading (tableIn table) false heading ≡ whole
+  pub pattern_reads : reading (table_in table) true pattern ≡ whole
+  pub heading_reads : reading (table_in table) false heading ≡ whole
   pub positive : 0 < cut
   pub top : cut ≤ 1000
-  pub clear : clash (tableIn table) cut (facesIn table pattern heading) ≡ none
-  pub noted : Noted heading notes (facesIn table pattern heading)
+  pub clear : clash (table_in table) cut (faces_in table pattern heading) ≡ none
+  pub noted : Noted heading notes (faces_in table pattern heading)
 
 -- The near sets of the heading's symbols are gathered, at this cut, if the pattern has a variable: without one they are not asked for.
 pub record NearWhere (table pattern heading : List ℕ) (cut : ℕ) (near : List ℕ) : Type 0 where
-  pub room : nearWords * (tableIn table).size ≤ length near
-  pub gathered : (i : ℕ) → i < length pattern → 32768 ≤ get_or pattern i 0 → NearSets (tableIn table) cut heading near
+  pub room : near_words * (table_in table).size ≤ length near
+  pub gathered : (i : ℕ) → i < length pattern → 32768 ≤ get_or pattern i 0 → NearSets (table_in table) cut heading near
 
 -- All that at some cut.
 pub record PackableAt (table pattern heading near notes : List ℕ) : Type 0 where
@@ -44,8 +44,8 @@ pub record PackableAt (table pattern heading near notes : List ℕ) : Type 0 whe
 pub record Room (pattern heading notes own spans sets : List ℕ) : Type 0 where
   pub of_notes : 2 * length pattern ≤ length notes
   pub of_own : 2 * length pattern ≤ length own
-  pub of_spans : spanWidth * variableCount ≤ length spans
-  pub of_sets : setWords * length heading ≤ length sets
+  pub of_spans : span_width * variable_count ≤ length spans
+  pub of_sets : set_words_lem * length heading ≤ length sets
 
 -- What came of variable v, which has so many positions, is noted, in its span and beside what the variables before it brought. The primed spans are the
 -- later ones.
@@ -54,7 +54,7 @@ pub record VariableNoted (v positions : ℕ) (before : Search) (found : Found) (
   pub lacking : after.lacking ≡ cond found.formed before.lacking (min before.lacking v)
   pub lowest : after.lowest ≡ min before.lowest found.lowest
   pub highest : after.highest ≡ min before.highest found.highest
-  pub span : spans' ≡ over spans (spanWidth * v) (before.packed ∷ positions ∷ found.lowest ∷ found.highest ∷ [])
+  pub span : spans' ≡ over spans (span_width * v) (before.packed ∷ positions ∷ found.lowest ∷ found.highest ∷ [])
 
 -- Variable v, which the terms ts face, is packed, behind all that was packed before. The primed buffers are the later ones.
 pub record PackedNext (T : Table) (cut : ℕ) (ts : List Term) (v : ℕ) (before after : Search) (spans spans' sets sets' : List ℕ) : Type 0 where
@@ -62,8 +62,8 @@ pub record PackedNext (T : Table) (cut : ℕ) (ts : List Term) (v : ℕ) (before
   pub lacking : after.lacking ≡ cond (formed T cut ts) before.lacking (min before.lacking v)
   pub lowest : after.lowest ≡ min before.lowest (lowest_for T cut ts)
   pub highest : after.highest ≡ min before.highest (highest_for T cut ts)
-  pub span : spans' ≡ over spans (spanWidth * v) (before.packed ∷ positions ts ∷ lowest_for T cut ts ∷ highest_for T cut ts ∷ [])
-  pub words : sets' ≡ over sets (setWords * before.packed) (all_words_lem (through (positions ts) (λ k. in_set T cut ts k ∷ [])))
+  pub span : spans' ≡ over spans (span_width * v) (before.packed ∷ positions ts ∷ lowest_for T cut ts ∷ highest_for T cut ts ∷ [])
+  pub words : sets' ≡ over sets (set_words_lem * before.packed) (all_words_lem (through (positions ts) (λ k. in_set T cut ts k ∷ [])))
 
 -- All variables are packed, as the pattern has them. These are the spans later, and the sets before and later.
 pub record PackedAll (T : Table) (cut : ℕ) (fs : List Face) (r : Search) (spans sets sets' : List ℕ) : Type 0 where
@@ -78,4 +78,4 @@ pub record PackedAll (T : Table) (cut : ℕ) (fs : List Face) (r : Search) (span
 abbrev pub PackedAt : List ℕ → List ℕ → List ℕ → List ℕ → List ℕ → Search → List ℕ → List ℕ → List ℕ → Type 0
 PackedAt table pattern heading near notes r spans sets sets' =
     (cut : ℕ) → Packable table pattern heading cut notes → NearWhere table pattern heading cut near
-    → PackedAll (tableIn table) cut (facesIn table pattern heading) r spans sets sets'
+    → PackedAll (table_in table) cut (faces_in table pattern heading) r spans sets sets'

@@ -1,12 +1,10 @@
 // All variables of the pattern, packed.
-#![tactic(auto)]
-
 ghost use Rattle.std.specs.Prelude.{◌≡◌, [], ◌∷◌, ◌+◌, ◌*◌, ◌≤◌, length};
 ghost use Rattle.theory.specs.Least.{least as leastOf};
-ghost use Rattle.meaning.specs.Limits.{spanWidth};
-ghost use Rattle.meaning.specs.File.{tableIn};
-ghost use Rattle.meaning.specs.Calls.{zeros, facesIn};
-ghost use Rattle.meaning.specs.Search.{symbolWorth};
+ghost use Rattle.meaning.specs.Limits.{span_width};
+ghost use Rattle.meaning.specs.File.{table_in};
+ghost use Rattle.meaning.specs.Calls.{zeros, faces_in};
+ghost use Rattle.meaning.specs.Search.{symbol_worth};
 ghost use Rattle.meaning.specs.Over.{over};
 ghost use Rattle.wide.specs.Index.{Index};
 ghost use Rattle.packing.specs.Pack.{PackableAt, Room, VariableNoted, PackedAt};
@@ -35,8 +33,8 @@ pub struct Search {
 
 // Notes variable v's span: its first position, how many positions it has, its own lowest and its own highest degree.
 fn put_span(spans: &mut [u16], v: u16, first: u16, positions: u16, lowest: u16, highest: u16)
-    requires { spanWidth * (v + 1) ≤ length spans.old }
-    ensures { spans.new ≡ over spans.old (spanWidth * v) (first ∷ positions ∷ lowest ∷ highest ∷ []) }
+    requires { span_width * (v + 1) ≤ length spans.old }
+    ensures { spans.new ≡ over spans.old (span_width * v) (first ∷ positions ∷ lowest ∷ highest ∷ []) }
 {
     let at = SPAN * v as usize;
     spans[at] = first;
@@ -47,7 +45,7 @@ fn put_span(spans: &mut [u16], v: u16, first: u16, positions: u16, lowest: u16, 
 
 // Notes what came of variable v, which has so many positions: in its span, and beside what the variables before it brought.
 fn note_variable(spans: &mut [u16], v: u16, positions: u16, search: Search, found: Found) -> Search
-    requires { (spanWidth * (v + 1) ≤ length spans.old) × (search.packed + positions ≤ 1024) }
+    requires { (span_width * (v + 1) ≤ length spans.old) × (search.packed + positions ≤ 1024) }
     ensures { VariableNoted v positions search found result spans.old spans.new }
 {
     let first = search.packed;
@@ -88,7 +86,7 @@ pub fn pack(
     sets: &mut [u64],
 ) -> Search
     requires index { Index table.now index.old × Room pattern.now heading.now notes.now own.old spans.old sets.old }
-    requires least_value { least ≡ leastOf (symbolWorth (tableIn table.now)) (facesIn table.now pattern.now heading.now) }
+    requires least_value { least ≡ leastOf (symbol_worth (table_in table.now)) (faces_in table.now pattern.now heading.now) }
     requires spans_value { spans.old ≡ zeros (length spans.old) }
     requires packable_at { PackableAt table.now pattern.now heading.now near.now notes.now }
     ensures { PackedAt table.now pattern.now heading.now near.now notes.now result spans.new sets.old sets.new }

@@ -14,7 +14,7 @@ use Rattle.theory.proofs.Lemmas.{most, fewest, lowest_le, lowest_top, le_lowest,
 use Rattle.meaning.specs.Buffers.{member}
 use Rattle.sets.specs.Words.{NoneBetween}
 use Rattle.near.specs.Near.{is_near}
-use Rattle.wide.specs.Shared.{sharedBy}
+use Rattle.wide.specs.Shared.{shared_by_lem}
 use Rattle.wide.specs.declared.Degrees.{Degrees}
 use Rattle.positions.specs.Position.{in_shared, lowest_shared, highest_shared, floor_of, SharedIs, Rated}
 use Rattle.positions.specs.Looked.{RatedBy, RatedAt}
@@ -28,7 +28,7 @@ highest_top (suc n) f top = omega (arith, top n, highest_top n f top)
 
 module _ (T : Table) (faced : List ℕ) where
   abbrev shares : ℕ → ℕ
-  shares = sharedBy T faced
+  shares = shared_by_lem T faced
 
   shared_top : (s : ℕ) → shares s ≤ 1000
   shared_top s = lowest_top T.size (λ h. cond (member faced h) (T.deg s h) 1000)

@@ -12,23 +12,23 @@ use lib.ListN.{length}
 use Rattle.theory.specs.Table.{Table, Lawful}
 use Rattle.theory.specs.Least.{lowest}
 use Rattle.theory.proofs.Lemmas.{fewest, lowest_le, lowest_top, le_lowest, and_left, and_right, and_true, skipped}
-use Rattle.meaning.specs.Limits.{setWords, setRoom}
+use Rattle.meaning.specs.Limits.{set_words_lem, set_room}
 use Rattle.meaning.specs.Buffers.{member}
 use Rattle.sets.specs.Words.{NoneBetween, NextBelow}
 use Rattle.sets.proofs.Laws.{none_past}
 use Rattle.near.specs.Near.{in_row, is_near, NearSet}
-use Rattle.wide.specs.Shared.{sharedBy}
+use Rattle.wide.specs.Shared.{shared_by_lem}
 use Rattle.positions.specs.Position.{floor_of, SharedIs}
 use Rattle.positions.proofs.Members.{fewest_in}
 
 -- LAW: the words of the near set of h are the symbols near to h
-pub near_members : {T : Table} {cut : ℕ} {near : List ℕ} {h : ℕ} → T.size ≤ setRoom → NearSet T cut near h → (words : List ℕ) → length words ≡ setWords
-    → ((k : ℕ) → k < setRoom → member words k ≡ in_row near h k) → (s : ℕ) → member words s ≡ is_near T cut h s
-near_members {T} {cut} {near} {h} small known words many same s = go (dec_lt s setRoom)
+pub near_members : {T : Table} {cut : ℕ} {near : List ℕ} {h : ℕ} → T.size ≤ set_room → NearSet T cut near h → (words : List ℕ) → length words ≡ set_words_lem
+    → ((k : ℕ) → k < set_room → member words k ≡ in_row near h k) → (s : ℕ) → member words s ≡ is_near T cut h s
+near_members {T} {cut} {near} {h} small known words many same s = go (dec_lt s set_room)
   where
-    go : Dec (s < setRoom) → member words s ≡ (ltb s T.size && leb cut (T.deg s h))
+    go : Dec (s < set_room) → member words s ≡ (ltb s T.size && leb cut (T.deg s h))
     go (yes l) = same s l ∙ known.has s l
-    go (no l) = rw (le-ltb s T.size (omega arith)) (none_past setWords words many s (omega arith))
+    go (no l) = rw (le-ltb s T.size (omega arith)) (none_past set_words_lem words many s (omega arith))
 
 -- LAW: the first member of a set that has one
 pub first_met : {n : ℕ} {faced : List ℕ} {end r : ℕ} → NextBelow n faced 0 end r → (h : ℕ) → member faced h ≡ true → h < end → r < end
@@ -143,7 +143,7 @@ module _ {T : Table} (L : Lawful T) {cut : ℕ} (top : cut ≤ 1000) (faced : Li
       at h false = top
 
   -- LAW: no shared symbol goes below it
-  pub floor_shared : (s : ℕ) → s < T.size → cut ≤ sharedBy T faced s → floor_of T cut faced ≤ sharedBy T faced s
+  pub floor_shared : (s : ℕ) → s < T.size → cut ≤ shared_by_lem T faced s → floor_of T cut faced ≤ shared_by_lem T faced s
   floor_shared s l reaches = le_lowest T.size _ (floor_of T cut faced) (lowest_top T.size _) (λ h m. at h m (member faced h) refl)
     where
       at : (h : ℕ) → h < T.size → (b : Bool) → member faced h ≡ b → floor_of T cut faced ≤ cond b (T.deg s h) 1000

@@ -18,7 +18,7 @@ use Rattle.theory.specs.Stands.{StandsAt, start_of, size_of, Gathered}
 use Rattle.theory.proofs.Lemmas.{least_top, all_of_least, least_of_all, all_get_d, lowest_le, lowest_top, le_lowest}
 use Rattle.theory.proofs.Gathered.{at_node, at_past}
 use Rattle.meaning.specs.Buffers.{member}
-use Rattle.wide.specs.Shared.{sharedBy}
+use Rattle.wide.specs.Shared.{shared_by_lem}
 use Rattle.positions.specs.Position.{NearOf, StandAt, EndsBefore, in_shared, lowest_shared, highest_shared}
 use Rattle.positions.proofs.Members.{lowest-same, highest-same}
 
@@ -119,7 +119,7 @@ module _ {T : Table} {cut : ℕ} {near heading : List ℕ} (known : NearOf T cut
     stand_symbols h e = let o = stand.only h e in rw o.2 at (symbol o.0 o.1)
 
     -- LAW: what a symbol shares with the subterms
-    pub shares : (s : ℕ) → shared T ts k s ≡ sharedBy T faced s
+    pub shares : (s : ℕ) → shared T ts k s ≡ shared_by_lem T faced s
     shares s = omega (arith, below, above)
       where
         f : Term → ℕ
@@ -130,17 +130,17 @@ module _ {T : Table} {cut : ℕ} {near heading : List ℕ} (known : NearOf T cut
             let each = all_get_d (λ t. shared T ts k s ≤ f t) ts o (node 0 ∅) (omega (arith, g.count)) (all_of_least f (shared T ts k s) ts (omega arith)) in
             omega (arith, each, ap (T.deg s) (here o l))
 
-        below : shared T ts k s ≤ sharedBy T faced s
+        below : shared T ts k s ≤ shared_by_lem T faced s
         below = le_lowest T.size (λ h. cond (member faced h) (T.deg s h) 1000) (shared T ts k s) (least_top f ts) (λ h l. go h (member faced h) refl)
           where
             go : (h : ℕ) (b : Bool) → member faced h ≡ b → shared T ts k s ≤ cond b (T.deg s h) 1000
             go h true e = let o = stand.only h e in rw o.2 at (with_one o.0 o.1)
             go h false e = least_top f ts
 
-        above : sharedBy T faced s ≤ shared T ts k s
-        above = least_of_all f (sharedBy T faced s) ts (lowest_top T.size (λ h. cond (member faced h) (T.deg s h) 1000)) (all_at _ (node 0 ∅) ts each)
+        above : shared_by_lem T faced s ≤ shared T ts k s
+        above = least_of_all f (shared_by_lem T faced s) ts (lowest_top T.size (λ h. cond (member faced h) (T.deg s h) 1000)) (all_at _ (node 0 ∅) ts each)
           where
-            each : (o : ℕ) → o < length ts → sharedBy T faced s ≤ f (get_or ts o (node 0 ∅))
+            each : (o : ℕ) → o < length ts → shared_by_lem T faced s ≤ f (get_or ts o (node 0 ∅))
             each o l =
                 let m : o < n = omega (arith, g.count) in
                 let h = get_or heading (start_of notes o + k) 0 in

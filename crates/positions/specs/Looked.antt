@@ -3,9 +3,9 @@ use Rattle.std.specs.Prelude.{◌≡◌, List, true, false, ℕ, ◌+◌, ◌≤
 use Rattle.theory.specs.Table.{Table, Lawful}
 use Rattle.theory.specs.Stands.{start_of}
 use Rattle.meaning.specs.Buffers.{member}
-use Rattle.wide.specs.Shared.{sharedBy, lowestFrom, highestFrom}
+use Rattle.wide.specs.Shared.{shared_by_lem, lowest_from, highest_from}
 use Rattle.wide.specs.declared.Degrees.{Degrees}
-use Rattle.positions.specs.Position.{noteCount, StandAt, EndsBefore, SharedIs, Rated}
+use Rattle.positions.specs.Position.{note_count, StandAt, EndsBefore, SharedIs, Rated}
 use Rattle.positions.specs.declared.faced.Faced.{Faced}
 
 -- where one symbol is said to stand alone it is the first subterm's
@@ -14,16 +14,16 @@ Alone faced = faced.alone ≡ true → (h : ℕ) → member faced.symbols.words 
 
 -- what stands at position k of all subterms
 pub record LookedAt (heading notes : List ℕ) (k : ℕ) (r : Faced) : Type 0 where
-  pub whole : r.everywhere ≡ true → StandAt heading notes k (noteCount notes) r.symbols.words
-  pub short : r.everywhere ≡ false → EndsBefore notes k (noteCount notes)
+  pub whole : r.everywhere ≡ true → StandAt heading notes k (note_count notes) r.symbols.words
+  pub short : r.everywhere ≡ false → EndsBefore notes k (note_count notes)
   pub first_is : r.first ≡ get_or heading (start_of notes 0 + k) 0
   pub alone : r.everywhere ≡ true → Alone r
 
 module _ (T : Table) (faced : List ℕ) where
   -- the degrees here of those that share the floor at least, with those before
   pub record RatedBy (floor : ℕ) (before r : Degrees) : Type 0 where
-    pub lowest_is : r.lowest ≡ min before.lowest (lowestFrom floor T.size (sharedBy T faced))
-    pub highest_is : r.highest ≡ min before.highest (highestFrom floor T.size (sharedBy T faced))
+    pub lowest_is : r.lowest ≡ min before.lowest (lowest_from floor T.size (shared_by_lem T faced))
+    pub highest_is : r.highest ≡ min before.highest (highest_from floor T.size (shared_by_lem T faced))
 
   -- the degrees here with those before, at whatever cut set and floor are of
   pub record RatedAt (set : List ℕ) (floor : ℕ) (before r : Degrees) : Type 0 where

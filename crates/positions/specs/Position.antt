@@ -4,18 +4,18 @@ use Rattle.std.specs.Prelude.{◌≡◌, List, Bool, true, ◌&&◌, cond, ℕ, 
 use Rattle.theory.specs.Table.{Table, Lawful}
 use Rattle.theory.specs.Least.{lowest, highest}
 use Rattle.theory.specs.Stands.{start_of, size_of}
-use Rattle.meaning.specs.Limits.{setRoom}
+use Rattle.meaning.specs.Limits.{set_room}
 use Rattle.meaning.specs.Buffers.{member}
 use Rattle.near.specs.Near.{Kept, is_near, NearSet, NearSets}
-use Rattle.wide.specs.Shared.{sharedBy}
+use Rattle.wide.specs.Shared.{shared_by_lem}
 
 -- how many notes a list has
-abbrev pub noteCount : List ℕ → ℕ
-noteCount notes = length notes / 2
+abbrev pub note_count : List ℕ → ℕ
+note_count notes = length notes / 2
 
 -- each noted subterm stays inside the heading
 abbrev pub Within : List ℕ → List ℕ → Type 0
-Within heading notes = (o : ℕ) → o < noteCount notes → start_of notes o + size_of notes o ≤ length heading
+Within heading notes = (o : ℕ) → o < note_count notes → start_of notes o + size_of notes o ≤ length heading
 
 -- there is a near set for each symbol of the heading
 abbrev pub Covers : List ℕ → List ℕ → Type 0
@@ -24,7 +24,7 @@ Covers heading near = (i : ℕ) → i < length heading → Kept near (get_or hea
 -- the near sets are those of a table at a cut, and the numbers of the heading are its symbols
 pub record NearOf (T : Table) (cut : ℕ) (near heading : List ℕ) : Type 0 where
   pub lawful : Lawful T
-  pub small : T.size ≤ setRoom
+  pub small : T.size ≤ set_room
   pub positive : 0 < cut
   pub top : cut ≤ 1000
   pub sets : NearSets T cut heading near
@@ -33,13 +33,13 @@ pub record NearOf (T : Table) (cut : ℕ) (near heading : List ℕ) : Type 0 whe
 -- .. of the symbols of a set
 pub record NearTo (T : Table) (cut : ℕ) (near faced : List ℕ) : Type 0 where
   pub lawful : Lawful T
-  pub small : T.size ≤ setRoom
+  pub small : T.size ≤ set_room
   pub sets : (h : ℕ) → member faced h ≡ true → NearSet T cut near h
   pub symbols : (h : ℕ) → member faced h ≡ true → h < T.size
 
 -- The near sets of the symbols of a set are there, each below so many symbols, and there is one.
 pub record KeptOf (near : List ℕ) (symbols : ℕ) (faced : List ℕ) : Type 0 where
-  pub few : symbols ≤ setRoom
+  pub few : symbols ≤ set_room
   pub kept : (h : ℕ) → member faced h ≡ true → Kept near h
   pub below : (h : ℕ) → member faced h ≡ true → h < symbols
   pub some : (h : ℕ) × (member faced h ≡ true)
@@ -61,14 +61,14 @@ EndsBefore notes k n = (o : ℕ) × (o < n) × (size_of notes o ≤ k)
 module _ (T : Table) (cut : ℕ) (faced : List ℕ) where
   -- symbol s is near enough to all that stand there
   abbrev pub in_shared : ℕ → Bool
-  in_shared s = ltb s T.size && leb cut (sharedBy T faced s)
+  in_shared s = ltb s T.size && leb cut (shared_by_lem T faced s)
 
   -- the lowest and the highest degree that such a symbol shares with them
   abbrev pub lowest_shared : ℕ
-  lowest_shared = lowest T.size (λ s. cond (in_shared s) (sharedBy T faced s) 1000)
+  lowest_shared = lowest T.size (λ s. cond (in_shared s) (shared_by_lem T faced s) 1000)
 
   abbrev pub highest_shared : ℕ
-  highest_shared = highest T.size (λ s. cond (in_shared s) (sharedBy T faced s) 0)
+  highest_shared = highest T.size (λ s. cond (in_shared s) (shared_by_lem T faced s) 0)
 
   -- the lowest degree in a near set of one that stands there: no shared symbol has a lower one
   abbrev pub floor_of : ℕ

@@ -1,8 +1,8 @@
 // The symbols that stand at a position of the subterms that face a variable.
 ghost use Rattle.std.specs.Prelude.{ℕ, ◌<◌, length, get_or};
 ghost use Rattle.theory.specs.Stands.{size_of};
-ghost use Rattle.meaning.specs.Limits.{setRoom};
-ghost use Rattle.positions.specs.Position.{noteCount, Within};
+ghost use Rattle.meaning.specs.Limits.{set_room};
+ghost use Rattle.positions.specs.Position.{note_count, Within};
 ghost use Rattle.positions.specs.Looked.{LookedAt};
 
 use facing::notes::note_at;
@@ -22,8 +22,8 @@ pub struct Faced {
 
 // What stands at position k, which the first of the subterms has.
 pub fn faced_at(heading: &[u16], notes: &[u16], k: usize) -> Faced
-    requires within { Within heading.now notes.now × ((i : ℕ) → i < length heading.now → get_or heading.now i 0 < setRoom) }
-    requires notes_nonzero { (0 < noteCount notes.now) × (k < size_of notes.now 0) }
+    requires within { Within heading.now notes.now × ((i : ℕ) → i < length heading.now → get_or heading.now i 0 < set_room) }
+    requires notes_nonzero { (0 < note_count notes.now) × (k < size_of notes.now 0) }
     ensures { LookedAt heading.now notes.now k result }
 {
     let first = heading[note_at(notes, 0).start as usize + k];

@@ -1,11 +1,11 @@
 // The lowest and the highest degree at a position, with those of the positions before it.
 ghost use Rattle.std.specs.Prelude.{◌≡◌, true, ◌≤◌, ◌<◌};
-ghost use Rattle.meaning.specs.File.{tableIn};
+ghost use Rattle.meaning.specs.File.{table_in};
 ghost use Rattle.meaning.specs.Refusals.{SoundFile};
 ghost use Rattle.table.specs.Read.{Counted};
 ghost use Rattle.degrees.specs.Rows.{Rows};
-ghost use Rattle.wide.specs.Index.{smallTable, Index};
-ghost use Rattle.wide.specs.Shared.{sharedBy};
+ghost use Rattle.wide.specs.Index.{small_table, Index};
+ghost use Rattle.wide.specs.Shared.{shared_by_lem};
 ghost use Rattle.positions.specs.Looked.{Alone, RatedBy, RatedAt, DegreesAt};
 
 use crate::faced::Faced;
@@ -25,8 +25,8 @@ const MOST_FEW: u16 = 16;
 
 // What a symbol shares with those that stand there: the least of its degrees with them.
 fn shared_degree(table: &[u8], counts: Counts, index: &[u16], faced: SymbolSet, symbol: u16) -> u16
-    requires { Counted table.now counts × Rows table.now index.now × (symbol < (tableIn table.now).size) }
-    ensures { result ≡ sharedBy (tableIn table.now) faced.words symbol }
+    requires { Counted table.now counts × Rows table.now index.now × (symbol < (table_in table.now).size) }
+    ensures { result ≡ shared_by_lem (table_in table.now) faced.words symbol }
 {
     let symbols = counts.symbols;
     let mut least: u16 = 1000;
@@ -61,7 +61,7 @@ fn few_of(symbols: u16) -> u16
 
 // Whether degrees are to be laid out side by side. Either way of finding them gives the same ones, so this decides speed alone.
 fn is_large(symbols: u16, words: &[u64; SymbolSet::WORDS]) -> bool
-    ensures { result ≡ true → smallTable < symbols }
+    ensures { result ≡ true → small_table < symbols }
 {
     if symbols <= SMALL_TABLE {
         return false;
@@ -95,7 +95,7 @@ fn few_degrees(
     before: Degrees,
 ) -> Degrees
     requires { SoundFile table.now × Rows table.now index.now × (before.lowest ≤ 1000) }
-    ensures { RatedAt (tableIn table.now) faced.words shared.set.words shared.floor before result }
+    ensures { RatedAt (table_in table.now) faced.words shared.set.words shared.floor before result }
 {
     let counts = counts_of(table);
     let symbols = counts.symbols;
@@ -125,9 +125,9 @@ fn many_degrees(
     floor: u16,
     before: Degrees,
 ) -> Degrees
-    requires { SoundFile table.now × Index table.now index.old × (smallTable < (tableIn table.now).size) }
+    requires { SoundFile table.now × Index table.now index.old × (small_table < (table_in table.now).size) }
     ensures index { Index table.now index.new }
-    ensures rated_by { RatedBy (tableIn table.now) faced.words floor before result }
+    ensures rated_by { RatedBy (table_in table.now) faced.words floor before result }
 {
     let here = wide_degrees(table, index, faced, floor);
     Degrees {
@@ -146,7 +146,7 @@ fn rate(
 ) -> Degrees
     requires { SoundFile table.now × Index table.now index.old × (before.lowest ≤ 1000) × (before.highest ≤ 1000) }
     ensures index { Index table.now index.new }
-    ensures rated_at { RatedAt (tableIn table.now) faced.words shared.set.words shared.floor before result }
+    ensures rated_at { RatedAt (table_in table.now) faced.words shared.set.words shared.floor before result }
 {
     let set = shared.set;
     if is_large(symbol_count(table), &set.words) {
@@ -164,9 +164,9 @@ pub fn degrees_at(
     before: Degrees,
 ) -> Degrees
     requires sound_file { SoundFile table.now × Index table.now index.old × (before.lowest ≤ 1000) × (before.highest ≤ 1000) }
-    requires first_bound { faced.everywhere ≡ true → (faced.first < (tableIn table.now).size) × Alone faced }
+    requires first_bound { faced.everywhere ≡ true → (faced.first < (table_in table.now).size) × Alone faced }
     ensures index { Index table.now index.new }
-    ensures degrees_at { DegreesAt (tableIn table.now) faced shared.set.words shared.floor before result }
+    ensures degrees_at { DegreesAt (table_in table.now) faced shared.set.words shared.floor before result }
 {
     if faced.everywhere {
         // then the set is the near set of that symbol: its lowest degree is the floor, and the symbol itself is in it

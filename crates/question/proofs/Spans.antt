@@ -11,18 +11,18 @@ use lib.Dec.{leb}
 use lib.ListN.{length, get_or, length-replicate}
 use Rattle.theory.specs.Table.{Table}
 use Rattle.theory.specs.Faces.{Face}
-use Rattle.meaning.specs.Limits.{setWords, variableCount, spanWidth}
-use Rattle.meaning.specs.File.{tableIn}
+use Rattle.meaning.specs.Limits.{set_words_lem, variable_count, span_width}
+use Rattle.meaning.specs.File.{table_in}
 use Rattle.meaning.specs.Refusals.{Refusal, refusal, first}
 use Rattle.meaning.specs.Packing.{order, count_of, start_in, among, span_from, packed_count, packed_spans}
-use Rattle.meaning.specs.Calls.{zeros, later, facesIn, match_rows, later_spans, later_sets}
+use Rattle.meaning.specs.Calls.{zeros, later, faces_in, match_rows, later_spans, later_sets}
 use Rattle.meaning.proofs.Packing.{span_at}
 use Rattle.meaning.proofs.Loop.{span_within}
 use Rattle.meaning.proofs.Lengths.{rooms, lengths}
 use Rattle.lines.specs.Lines.{Spanned}
 use Rattle.lines.proofs.Spans.{ending, zero_ending}
 
-packed_ending : (T : Table) (cut : ℕ) (fs : List Face) (rest : List ℕ) (v : ℕ) → v < variableCount → ending (packed_spans T cut fs ++ rest) v ≤ packed_count fs
+packed_ending : (T : Table) (cut : ℕ) (fs : List Face) (rest : List ℕ) (v : ℕ) → v < variable_count → ending (packed_spans T cut fs ++ rest) v ≤ packed_count fs
 unfolding packed_count
 packed_ending T cut fs rest v l =
     let one = rw add-zero at (span_at T cut fs rest v 0 l (omega arith)) in
@@ -36,23 +36,23 @@ packed_ending T cut fs rest v l =
     go false e = omega arith
 
 module _ (table pattern heading : List ℕ) (cut n : ℕ) (sets : List ℕ) where
-  inside : (v : ℕ) → v < variableCount → setWords * ending (later_spans table pattern heading cut (zeros n) sets) v ≤ length sets
-  unfolding later_spans facesIn
+  inside : (v : ℕ) → v < variable_count → set_words_lem * ending (later_spans table pattern heading cut (zeros n) sets) v ≤ length sets
+  unfolding later_spans faces_in
   inside v m = go (first (match_rows table pattern heading cut (zeros n) sets)) refl
     where
       filled : List ℕ
-      filled = packed_spans (tableIn table) cut (facesIn table pattern heading)
+      filled = packed_spans (table_in table) cut (faces_in table pattern heading)
 
-      blank : (b : Bool) (k : ℕ) → setWords * ending (cond b (zeros n) (zeros k)) v ≤ length sets
+      blank : (b : Bool) (k : ℕ) → set_words_lem * ending (cond b (zeros n) (zeros k)) v ≤ length sets
       blank true k = omega (arith, zero_ending n v)
       blank false k = omega (arith, zero_ending k v)
 
-      go : (o : Option Refusal) → first (match_rows table pattern heading cut (zeros n) sets) ≡ o → setWords * ending (later o filled (zeros n)) v ≤ length sets
-      go none e = omega (arith, packed_ending (tableIn table) cut (facesIn table pattern heading) (zeros (length (zeros n) - length filled)) v m, (rooms table pattern heading cut (zeros n) sets e).1)
+      go : (o : Option Refusal) → first (match_rows table pattern heading cut (zeros n) sets) ≡ o → set_words_lem * ending (later o filled (zeros n)) v ≤ length sets
+      go none e = omega (arith, packed_ending (table_in table) cut (faces_in table pattern heading) (zeros (length (zeros n) - length filled)) v m, (rooms table pattern heading cut (zeros n) sets e).1)
       go (just (refusal k place)) e = blank (leb k 8) (length (zeros n))
 
   -- LAW: what a match leaves in zeros, and in sets, spans its variables
-  pub match_spanned : spanWidth * variableCount ≤ n → Spanned (later_spans table pattern heading cut (zeros n) sets) (later_sets table pattern heading cut (zeros n) sets)
+  pub match_spanned : span_width * variable_count ≤ n → Spanned (later_spans table pattern heading cut (zeros n) sets) (later_sets table pattern heading cut (zeros n) sets)
   match_spanned l =
       record {
         spans_there = omega (arith, lengths.of_spans table pattern heading cut (zeros n) sets, length-replicate {A = ℕ} n 0);

@@ -3,14 +3,14 @@ use Rattle.std.specs.Prelude.{◌≡◌, List, ℕ, ◌≤◌, length}
 use Rattle.meaning.specs.Program.{output}
 use Rattle.refusal.specs.declared.Outcome.{Outcome}
 use Rattle.refusal.specs.Outcomes.{result_of}
-use Rattle.lines.specs.Lines.{textIn, Spanned}
+use Rattle.lines.specs.Lines.{text_in, Spanned}
 use Rattle.lines.specs.Lengths.{most_text}
 use Rattle.output.specs.declared.pending.Pending.{Pending}
 use Rattle.output.specs.Pendings.{Said}
 
 -- The outcome and the two buffers have the text that is written for the question.
 pub record AnsweredBy (input : List ℕ) (outcome : Outcome) (spans sets : List ℕ) : Type 0 where
-  pub text_is : textIn (result_of outcome spans sets) ≡ output input
+  pub text_is : text_in (result_of outcome spans sets) ≡ output input
   pub spanned : Spanned spans sets
 
 -- That text is said behind what stood in the buffer, and is not too long to be counted.

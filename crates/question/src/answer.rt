@@ -1,6 +1,6 @@
 // The answer to a question: what the match says of it.
 ghost use Rattle.std.specs.Prelude.{◌≡◌, ◌*◌, ◌≤◌, length};
-ghost use Rattle.meaning.specs.Limits.{variableCount, spanWidth};
+ghost use Rattle.meaning.specs.Limits.{variable_count, span_width};
 ghost use Rattle.meaning.specs.Calls.{zeros};
 ghost use Rattle.shape.specs.Shapes.{HeaderBy};
 ghost use Rattle.shape.specs.Rooms.{room_for};
@@ -15,7 +15,7 @@ use shape::room::LONGEST;
 // The answer to a question with this header.
 fn answer_asked(input: &[u8], header: Header, spans: &mut [u16], sets: &mut [u64]) -> Outcome
     requires header_by { HeaderBy input.now header }
-    requires spans_value { (spans.old ≡ zeros (spanWidth * variableCount)) × (room_for input.now ≤ length sets.old) }
+    requires spans_value { (spans.old ≡ zeros (span_width * variable_count)) × (room_for input.now ≤ length sets.old) }
     ensures { AnsweredBy input.now result spans.new sets.new }
 {
     let mut pattern = [0u16; LONGEST];
@@ -36,7 +36,7 @@ fn answer_asked(input: &[u8], header: Header, spans: &mut [u16], sets: &mut [u64
 
 // The answer to a question. The lines of its text are read from the outcome, the spans and the sets.
 pub fn answer(input: &[u8], spans: &mut [u16], sets: &mut [u64]) -> Outcome
-    requires { (spans.old ≡ zeros (spanWidth * variableCount)) × (room_for input.now ≤ length sets.old) }
+    requires { (spans.old ≡ zeros (span_width * variable_count)) × (room_for input.now ≤ length sets.old) }
     ensures { AnsweredBy input.now result spans.new sets.new }
 {
     match take_apart(input) {

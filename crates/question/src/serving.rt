@@ -1,11 +1,11 @@
 // Questions answered, behind what is still to be written.
 ghost use Rattle.std.specs.Prelude.{◌++◌, ◌≤◌, length};
 ghost use Rattle.meaning.specs.Program.{output};
-ghost use Rattle.shape.specs.Rooms.{room_for, mostRoom};
-ghost use Rattle.lines.specs.Lines.{lineRoom};
-ghost use Rattle.lines.specs.Lengths.{mostSets};
+ghost use Rattle.shape.specs.Rooms.{room_for, most_room};
+ghost use Rattle.lines.specs.Lines.{line_room};
+ghost use Rattle.lines.specs.Lengths.{most_sets};
 ghost use Rattle.output.specs.Pendings.{Said};
-ghost use Rattle.output.specs.Titles.{titleText};
+ghost use Rattle.output.specs.Titles.{title_text};
 ghost use Rattle.question.specs.Answers.{ServedBy};
 
 use crate::answer::answer;
@@ -15,8 +15,8 @@ use shape::room::room_for;
 
 // Puts the answer to a question behind what stands in the buffer, in sets of their own size.
 fn serve_in(question: &[u8], sets: &mut [u64], out: &mut [u8], used: usize) -> Pending
-    requires question_in_bounds { (room_for question.now ≤ length sets.old) × (length sets.old ≤ mostSets) }
-    requires used_in_bounds { (used ≤ length out.old) × (lineRoom ≤ length out.old) }
+    requires question_in_bounds { (room_for question.now ≤ length sets.old) × (length sets.old ≤ most_sets) }
+    requires used_in_bounds { (used ≤ length out.old) × (line_room ≤ length out.old) }
     ensures { ServedBy question.now out.old used result out.new }
 {
     let mut spans = [0u16; 128];
@@ -26,7 +26,7 @@ fn serve_in(question: &[u8], sets: &mut [u64], out: &mut [u8], used: usize) -> P
 
 // Puts the answer to a question behind what stands in the buffer. Of the sets no more is used than the question's heading has nodes for.
 pub fn serve(question: &[u8], sets: &mut [u64], out: &mut [u8], used: usize) -> Pending
-    requires { (mostRoom ≤ length sets.old) × (used ≤ length out.old) × (lineRoom ≤ length out.old) }
+    requires { (most_room ≤ length sets.old) × (used ≤ length out.old) × (line_room ≤ length out.old) }
     ensures { ServedBy question.now out.old used result out.new }
 {
     let room = room_for(question);
@@ -35,8 +35,8 @@ pub fn serve(question: &[u8], sets: &mut [u64], out: &mut [u8], used: usize) -> 
 
 // The line with the question's number, and then its answer.
 pub fn say_answer(k: u64, question: &[u8], sets: &mut [u64], out: &mut [u8], used: usize) -> Pending
-    requires { (mostRoom ≤ length sets.old) × (used ≤ length out.old) × (lineRoom ≤ length out.old) }
-    ensures { Said out.old used (titleText k ++ output question.now) result out.new }
+    requires { (most_room ≤ length sets.old) × (used ≤ length out.old) × (line_room ≤ length out.old) }
+    ensures { Said out.old used (title_text k ++ output question.now) result out.new }
 {
     match say_title(k, out, used) {
         Pending::Bytes(written, at) => with_written(written, serve(question, sets, out, at)),

@@ -4,7 +4,7 @@ use mathlib.Core.Path.{◌≡◌, sym, ◌∙◌}
 use mathlib.Core.List.{List, ◌++◌}
 use Prim.Native.Nat.{ℕ, ◌≤◌}
 use lib.ListN.{length, drop}
-use Rattle.meaning.specs.File.{aritiesIn, pairsIn}
+use Rattle.meaning.specs.File.{arities_in, pairs_in}
 use Rattle.meaning.specs.Refusals.{SoundFile}
 use Rattle.meaning.specs.Tables.{Bytes, Writes}
 use Rattle.table.specs.declared.read.Pair.{Pair}
@@ -26,7 +26,7 @@ module _ (arities : List ℕ) (records : List Pair) (output : List ℕ) where
   writes_back r later p = read_back arities (listed records) output r later p.answers p.leaves
 
 -- THEOREM: records that were read from a table are written as the table's own bytes
-pub writes_again : (table output : List ℕ) → Bytes table → SoundFile table → length table ≤ length output → (records : List Pair) → listed records ≡ pairsIn table
-    → (r : Writing) (later : List ℕ) → WriteRecords (aritiesIn table) records output r later
+pub writes_again : (table output : List ℕ) → Bytes table → SoundFile table → length table ≤ length output → (records : List Pair) → listed records ≡ pairs_in table
+    → (r : Writing) (later : List ℕ) → WriteRecords (arities_in table) records output r later
     → (r ≡ Written (length table)) × (later ≡ table ++ drop (length table) output)
 writes_again table output b s l records same r later p = written-again table output b s l (listed records) same r later p.answers p.leaves

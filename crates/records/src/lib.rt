@@ -1,10 +1,8 @@
 // The table writer on pair records: their numbers are copied to a list, and the writer on numbers does the rest. A function over a slice of
 // structs is proved by hand, step by step; so the functions here decide nothing but how much room the list has.
-#![tactic(auto)]
-
 ghost use Rattle.std.specs.Prelude.{◌≡◌, [], ◌∷◌, ◌+◌, ◌*◌, ◌≤◌, length, take};
-ghost use Rattle.meaning.specs.Limits.{mostPairs};
-ghost use Rattle.meaning.specs.File.{numbersOf};
+ghost use Rattle.meaning.specs.Limits.{most_pairs};
+ghost use Rattle.meaning.specs.File.{numbers_of_lem};
 ghost use Rattle.meaning.specs.Over.{over};
 ghost use Rattle.records.specs.Records.{listed, WriteRecords};
 
@@ -33,7 +31,7 @@ fn put_three(numbers: &mut [u16], at: usize, lower: u16, higher: u16, degree: u1
 // The numbers of the first `count` records, one behind the other.
 fn copy_records(numbers: &mut [u16], pairs: &[Pair], count: usize)
     requires { (count ≤ length pairs.now) × (3 * count ≤ length numbers.old) }
-    ensures { numbers.new ≡ over numbers.old 0 (numbersOf (take count (listed pairs.now))) }
+    ensures { numbers.new ≡ over numbers.old 0 (numbers_of_lem (take count (listed pairs.now))) }
 {
     let mut k = 0;
     while k < count {
@@ -45,7 +43,7 @@ fn copy_records(numbers: &mut [u16], pairs: &[Pair], count: usize)
 
 // The table file of these arities and pairs, as `write_records` has it, by way of a list of numbers that is lent for it.
 fn write_by(numbers: &mut [u16], arities: &[u8], pairs: &[Pair], output: &mut [u8]) -> Writing
-    requires { length pairs.now ≤ mostPairs → 3 * length pairs.now ≤ length numbers.old }
+    requires { length pairs.now ≤ most_pairs → 3 * length pairs.now ≤ length numbers.old }
     ensures { WriteRecords arities.now pairs.now output.old result output.new }
 {
     let count = fitting(numbers.len(), pairs.len());

@@ -17,12 +17,12 @@ use Rattle.output.proofs.Turning.{Prepared, answered, unanswered, answered_behin
 use Rattle.replay.specs.declared.Turn.{Turn}
 use Rattle.replay.specs.declared.Turn.TheVariants.{Go, Stop, Failed}
 use Rattle.replay.specs.Batches.{turn_text, GoesOn, Stops, none, further}
-use Rattle.replay.specs.Turns.{goOn, stop_at, TurnFrom, TurnOf, TurnsBy}
+use Rattle.replay.specs.Turns.{go_on, stop_at, TurnFrom, TurnOf, TurnsBy}
 use Rattle.replay.proofs.Begins.{begun_more}
 
 module _ (k : ℕ) (next : Next) (buffer before : List ℕ) (used : ℕ) (after : List ℕ) (coming : Coming) (is : coming ≡ found_in buffer next) where
   -- LAW: what is said goes on with the bytes behind it
-  pub answered_go : (at end : ℕ) (pending : Pending) (turn : Turn) → turn ≡ goOn at end pending → at ≤ end → end ≤ length buffer → GoesOn coming (unread buffer at end)
+  pub answered_go : (at end : ℕ) (pending : Pending) (turn : Turn) → turn ≡ go_on at end pending → at ≤ end → end ≤ length buffer → GoesOn coming (unread buffer at end)
       → Said before used (turn_text k coming) pending after → TurnOf k next buffer before used turn after
   answered_go at end (Bytes written standing) turn e l m goes said = rw e (l, m, answered (turn_text k) coming (is, goes) said)
   answered_go at end NotWritten turn e l m goes said = rw e (λ _. unanswered (turn_text k) coming is after said)

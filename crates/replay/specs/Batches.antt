@@ -1,14 +1,14 @@
 -- What is said of a batch: of each question by its number, one after the other.
 use Rattle.std.specs.Prelude.{◌≡◌, List, [], ◌++◌, ℕ, ◌+◌}
-use Rattle.meaning.specs.Program.{output, refusedText}
+use Rattle.meaning.specs.Program.{output, refused_text}
 use Rattle.input.specs.Coming.{Coming, question, too_long_lem, cut_off_lem, ended, Comes}
-use Rattle.output.specs.Titles.{titleText, cutOffText}
+use Rattle.output.specs.Titles.{title_text, cut_off_text}
 
 -- What is said where this comes next, of question k.
 unfoldable pub turn_text : ℕ → Coming → List ℕ
-turn_text k (question asked left) = titleText k ++ output asked
-turn_text k (too_long_lem left) = titleText k ++ refusedText 12 0
-turn_text k cut_off_lem = titleText k ++ cutOffText
+turn_text k (question asked left) = title_text k ++ output asked
+turn_text k (too_long_lem left) = title_text k ++ refused_text 12 0
+turn_text k cut_off_lem = title_text k ++ cut_off_text
 turn_text k ended = []
 
 -- The batch goes on with these bytes; or it is over.

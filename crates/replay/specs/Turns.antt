@@ -11,9 +11,9 @@ use Rattle.replay.specs.declared.Turn.{Turn}
 use Rattle.replay.specs.declared.Turn.TheVariants.{Go, Stop, Failed}
 use Rattle.replay.specs.Batches.{turn_text, GoesOn, Stops, Begins, WholeBatch}
 
-abbrev pub goOn : ℕ → ℕ → Pending → Turn
-goOn at end (Bytes written standing) = Go at end standing
-goOn at end NotWritten = Failed
+abbrev pub go_on : ℕ → ℕ → Pending → Turn
+go_on at end (Bytes written standing) = Go at end standing
+go_on at end NotWritten = Failed
 
 abbrev pub stop_at : Pending → Turn
 stop_at (Bytes written standing) = Stop standing

@@ -1,12 +1,10 @@
 // Answers the questions on standard input, one after the other, on standard output.
-#![tactic(auto)]
-
 ghost use Rattle.std.specs.Prelude.{◌≡◌, ◌≤◌, length};
-ghost use Rattle.lines.specs.Lines.{lineRoom};
-ghost use Rattle.shape.specs.Rooms.{mostRoom};
+ghost use Rattle.lines.specs.Lines.{line_room};
+ghost use Rattle.shape.specs.Rooms.{most_room};
 ghost use Rattle.input.specs.Unreads.{unread};
 ghost use Rattle.input.specs.Found.{Found};
-ghost use Rattle.replay.specs.Turns.{goOn, stop_at, TurnOf, TurnFrom, TurnsBy};
+ghost use Rattle.replay.specs.Turns.{go_on, stop_at, TurnOf, TurnFrom, TurnsBy};
 
 use input::batch::{Next, next_question};
 use output::pending::{Pending, must_write, settle, write_out};
@@ -28,7 +26,7 @@ pub enum Turn {
 }
 
 fn go(at: usize, end: usize, pending: Pending) -> Turn
-    ensures { result ≡ goOn at end pending }
+    ensures { result ≡ go_on at end pending }
 {
     match pending {
         Pending::Bytes(_, standing) => Turn::Go(at, end, standing),
@@ -55,7 +53,7 @@ fn answer_next(
     used: usize,
 ) -> Turn
     requires found { Found (length buffer.now) next }
-    requires most_room_in_bounds { (mostRoom ≤ length sets.old) × (used ≤ length out.old) × (lineRoom ≤ length out.old) }
+    requires most_room_in_bounds { (most_room ≤ length sets.old) × (used ≤ length out.old) × (line_room ≤ length out.old) }
     ensures { TurnOf k next buffer.now out.old used result out.new }
 {
     match next {
@@ -81,7 +79,7 @@ fn take_turn(
     used: usize,
 ) -> Turn
     requires at_le_end { (at ≤ end) × (end ≤ length buffer.old) × (65535 ≤ length buffer.old) }
-    requires most_room_in_bounds { (mostRoom ≤ length sets.old) × (used ≤ length out.old) × (lineRoom ≤ length out.old) }
+    requires most_room_in_bounds { (most_room ≤ length sets.old) × (used ≤ length out.old) × (line_room ≤ length out.old) }
     ensures { TurnFrom k (unread buffer.old at end) (at ≡ end) buffer.new out.old used result out.new }
 {
     match settle(out, used, must_write(at, end, used)) {
@@ -95,7 +93,7 @@ fn take_turn(
 
 // Turn after turn, until the batch is over.
 fn answer_all(buffer: &mut [u8], sets: &mut [u64], out: &mut [u8]) -> Turn
-    requires { (65535 ≤ length buffer.old) × (mostRoom ≤ length sets.old) × (lineRoom ≤ length out.old) }
+    requires { (65535 ≤ length buffer.old) × (most_room ≤ length sets.old) × (line_room ≤ length out.old) }
     ensures { TurnsBy 18446744073709551615 buffer.new out.old result out.new }
 {
     let mut turn = Turn::Go(0, 0, 0);

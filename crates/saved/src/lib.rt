@@ -1,9 +1,7 @@
 // Answers that were saved when a set had four words. Only their sets have to change: each becomes one of today, with zeros in its further words.
-#![tactic(auto)]
-
 ghost use Rattle.std.specs.Prelude.{◌≡◌, ◌+◌, ◌*◌, ◌≤◌, ◌<◌, length, get_or};
-ghost use Rattle.meaning.specs.Limits.{setWords};
-ghost use Rattle.meaning.specs.Saved.{savedWords, widenedSet};
+ghost use Rattle.meaning.specs.Limits.{set_words_lem};
+ghost use Rattle.meaning.specs.Saved.{saved_words, widened_set};
 ghost use Rattle.saved.specs.Widening.{Widen};
 
 use refusal::Refusal;
@@ -17,8 +15,8 @@ const TIMES: usize = SymbolSet::WORDS / SAVED_WORDS;
 
 // Word w, as it is today, of the set that was saved at a position.
 fn saved_word(words: &[u64], position: usize, w: usize) -> u64
-    requires { (savedWords * (position + 1) ≤ length words.now) × (w < setWords) }
-    ensures { result ≡ get_or (widenedSet words.now position) w 0 }
+    requires { (saved_words * (position + 1) ≤ length words.now) × (w < set_words_lem) }
+    ensures { result ≡ get_or (widened_set words.now position) w 0 }
 {
     if w < SAVED_WORDS {
         words[SAVED_WORDS * position + w]
@@ -29,8 +27,8 @@ fn saved_word(words: &[u64], position: usize, w: usize) -> u64
 
 // The set that was saved at a position.
 fn saved_set(words: &[u64], position: usize) -> SymbolSet
-    requires { savedWords * (position + 1) ≤ length words.now }
-    ensures { result.words ≡ widenedSet words.now position }
+    requires { saved_words * (position + 1) ≤ length words.now }
+    ensures { result.words ≡ widened_set words.now position }
 {
     let mut set = [0u64; SymbolSet::WORDS];
     for w in 0..SymbolSet::WORDS {

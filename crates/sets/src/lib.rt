@@ -1,10 +1,8 @@
 // Sets of symbols as words of bits, made, asked and combined by value.
 //
 // Contracts speak of members, but where words are read from a list or put into one. That the words themselves follow from the members is `same_set` of proofs/Laws.
-#![tactic(auto)]
-
 ghost use Rattle.std.specs.Prelude.{◌≡◌, true, false, ◌&&◌, ◌||◌, ◌↔◌, ℕ, ◌+◌, ◌≤◌, ◌<◌, eqb, length, get_or};
-ghost use Rattle.meaning.specs.Limits.{setWords, setRoom};
+ghost use Rattle.meaning.specs.Limits.{set_words_lem, set_room};
 ghost use Rattle.meaning.specs.Over.{over};
 ghost use Rattle.meaning.specs.Buffers.{member};
 ghost use Rattle.sets.specs.Words.{NextBelow};
@@ -37,8 +35,8 @@ impl SymbolSet {
 
     // The least symbol of the set that is not below `from`, as `next_member` says.
     pub fn next(self, from: u16, end: u16) -> u16
-        requires { (from ≤ setRoom) × (end ≤ setRoom) }
-        ensures { NextBelow setWords self.words from end result }
+        requires { (from ≤ set_room) × (end ≤ set_room) }
+        ensures { NextBelow set_words_lem self.words from end result }
     {
         next_member(&self.words, from, end)
     }
@@ -58,8 +56,8 @@ impl SymbolSet {
 
     // The set whose words a list has from index `at` on.
     pub fn read(list: &[u64], at: usize) -> SymbolSet
-        requires { at + setWords ≤ length list.now }
-        ensures { (w : ℕ) → w < setWords → get_or result.words w 0 ≡ get_or list.now (at + w) 0 }
+        requires { at + set_words_lem ≤ length list.now }
+        ensures { (w : ℕ) → w < set_words_lem → get_or result.words w 0 ≡ get_or list.now (at + w) 0 }
     {
         let mut words = [0u64; SymbolSet::WORDS];
         for j in 0..SymbolSet::WORDS {
@@ -70,7 +68,7 @@ impl SymbolSet {
 
     // Puts the set's words into a list, from index `at` on.
     pub fn put(self, list: &mut [u64], at: usize)
-        requires { at + setWords ≤ length list.old }
+        requires { at + set_words_lem ≤ length list.old }
         ensures { list.new ≡ over list.old at self.words }
     {
         let words = self.words;
@@ -95,7 +93,7 @@ impl SymbolSet {
 
 // Puts symbol k into a set. The words are lent, so that one bit is set where it stands, at the same cost however many words a set has.
 pub fn insert(words: &mut [u64], k: u16)
-    requires { (k < setRoom) × (setWords ≤ length words.old) }
+    requires { (k < set_room) × (set_words_lem ≤ length words.old) }
     ensures { (j : ℕ) → member words.new j ≡ (member words.old j || eqb j k) }
 {
     let at = (k / SymbolSet::BITS) as usize;
@@ -105,8 +103,8 @@ pub fn insert(words: &mut [u64], k: u16)
 // The least symbol of a set that is not below `from`, or some number that is not below `end` where none is below that. Words past the end
 // are not looked at, so that the symbols of a small table cost no more than they are. The words are lent, so that a loop over the members copies none.
 pub fn next_member(words: &[u64; SymbolSet::WORDS], from: u16, end: u16) -> u16
-    requires { (from ≤ setRoom) × (end ≤ setRoom) }
-    ensures { NextBelow setWords words.now from end result }
+    requires { (from ≤ set_room) × (end ≤ set_room) }
+    ensures { NextBelow set_words_lem words.now from end result }
 {
     let mut k = from;
     while k < end {

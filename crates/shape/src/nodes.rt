@@ -1,6 +1,6 @@
 // The nodes of the pattern and the heading, as numbers.
 ghost use Rattle.std.specs.Prelude.{◌≡◌, ◌++◌, ◌+◌, ◌*◌, ◌≤◌, min, length, drop};
-ghost use Rattle.meaning.specs.Program.{numbersFrom};
+ghost use Rattle.meaning.specs.Program.{numbers_from};
 
 use table::number::number_at;
 
@@ -13,7 +13,7 @@ pub fn fewer(a: usize, b: usize) -> usize
 // Copies so many numbers, which stand from byte `at` on, to the front of `out`, or as many as it has room for; answers how many.
 pub fn copy_nodes(input: &[u8], at: usize, count: usize, out: &mut [u16]) -> usize
     requires { at + 2 * count ≤ length input.now }
-    ensures { (result ≡ min count (length out.old)) × (out.new ≡ numbersFrom input.now at result ++ drop result out.old) }
+    ensures { (result ≡ min count (length out.old)) × (out.new ≡ numbers_from input.now at result ++ drop result out.old) }
 {
     let copied = fewer(count, out.len());
     for i in 0..copied {

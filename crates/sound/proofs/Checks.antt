@@ -3,7 +3,7 @@ use mathlib.Core.Path.{◌≡◌, sym, ap, ◌∙◌}
 use mathlib.Core.List.{List, ◌++◌}
 use mathlib.Core.Option.{none, some as just}
 use Prim.Native.Nat.{ℕ}
-use Rattle.meaning.specs.Refusals.{Refusal as Given, refusal, Row, first, tableRows, SoundFile}
+use Rattle.meaning.specs.Refusals.{Refusal as Given, refusal, Row, first, table_rows, SoundFile}
 use Rattle.meaning.specs.Calls.{unless}
 use Rattle.meaning.proofs.Compose.{first_stays}
 use Rattle.refusal.specs.declared.Refusal.{Refusal}
@@ -13,11 +13,11 @@ use Rattle.sound.specs.Found.{found}
 use Rattle.sound.specs.declared.Checked.{Checked}
 use Rattle.sound.specs.declared.Checked.TheVariants.{Sound, Refused}
 
-module _ (table : List ℕ) (r : Checked) (e : found r ≡ first (tableRows table)) where
+module _ (table : List ℕ) (r : Checked) (e : found r ≡ first (table_rows table)) where
   pub sound_by : r ≡ Sound → SoundFile table
   sound_by q = sym e ∙ ap found q
 
-  pub refused_by_lem : (why : Refusal) → r ≡ Refused why → first (tableRows table) ≡ just (told why)
+  pub refused_by_lem : (why : Refusal) → r ≡ Refused why → first (table_rows table) ≡ just (told why)
   refused_by_lem why q = sym e ∙ ap found q
 
 -- LAW: a refusal given by the first rows is given by all

@@ -3,5 +3,5 @@ use Rattle.std.specs.Prelude.{List, ℕ, ◌+◌, ◌*◌}
 use Rattle.meaning.specs.File.{number}
 
 -- The file's numbers from byte `at` on.
-abbrev pub numbersFrom : List ℕ → ℕ → ℕ → ℕ
-numbersFrom file at n = number file (at + 2 * n)
+abbrev pub numbers_from : List ℕ → ℕ → ℕ → ℕ
+numbers_from file at n = number file (at + 2 * n)

@@ -1,13 +1,11 @@
 // Whether bytes are a table file.
-#![tactic(auto)]
-
 mod runs;
 
 ghost use Rattle.std.specs.Prelude.{◌≡◌, [], ◌∷◌, not, ◌≤◌, length};
-ghost use Rattle.meaning.specs.File.{symbolCount, pairCount, total, aritiesIn, pairsIn};
-ghost use Rattle.meaning.specs.Refusals.{row, at0, row1_offsets, row3, row4, first, tableRows};
-ghost use Rattle.meaning.specs.Tables.{pairStart};
-ghost use Rattle.table.specs.Keys.{keyBefore};
+ghost use Rattle.meaning.specs.File.{symbol_count_lem, pair_count_lem, total, arities_in, pairs_in};
+ghost use Rattle.meaning.specs.Refusals.{row, at0, row1_offsets, row3, row4, first, table_rows};
+ghost use Rattle.meaning.specs.Tables.{pair_start};
+ghost use Rattle.table.specs.Keys.{key_before_lem};
 ghost use Rattle.table.specs.Places.{place_in};
 ghost use Rattle.sound.specs.Found.{found};
 
@@ -24,7 +22,7 @@ pub enum Checked {
 
 // Whether the offsets and the total are what the counts ask for, and the file has that length.
 fn well_placed(file: &[u8], symbols: usize, pairs: usize) -> bool
-    requires { (10 ≤ length file.now) × (symbols ≡ symbolCount file.now) × (pairs ≡ pairCount file.now) }
+    requires { (10 ≤ length file.now) × (symbols ≡ symbol_count_lem file.now) × (pairs ≡ pair_count_lem file.now) }
     ensures { row1_offsets file.now ≡ row 1 (at0 (not result)) }
 {
     if number_at(file, 4) != 10 {
@@ -42,8 +40,8 @@ fn well_placed(file: &[u8], symbols: usize, pairs: usize) -> bool
 
 // The key of the pair before pair k, which begins at byte `at`; 0 before the first.
 fn key_before(file: &[u8], at: usize, k: usize) -> u32
-    requires { (k ≤ pairCount file.now) × (at ≡ pairStart file.now k) × (at ≤ length file.now) }
-    ensures { result ≡ keyBefore (pairsIn file.now) k }
+    requires { (k ≤ pair_count_lem file.now) × (at ≡ pair_start file.now k) × (at ≤ length file.now) }
+    ensures { result ≡ key_before_lem (pairs_in file.now) k }
 {
     if k == 0 {
         return 0;
@@ -53,8 +51,8 @@ fn key_before(file: &[u8], at: usize, k: usize) -> u32
 
 // The first pair that may not be listed where it stands.
 fn bad_pair(file: &[u8], arities: &[u8], pairs: usize) -> Place
-    requires { (arities.now ≡ aritiesIn file.now) × (pairs ≡ pairCount file.now) × (total (symbolCount file.now) pairs ≤ length file.now) }
-    ensures { row4 (aritiesIn file.now) (pairsIn file.now) ≡ row 4 (place_in result) }
+    requires { (arities.now ≡ arities_in file.now) × (pairs ≡ pair_count_lem file.now) × (total (symbol_count_lem file.now) pairs ≤ length file.now) }
+    ensures { row4 (arities_in file.now) (pairs_in file.now) ≡ row 4 (place_in result) }
 {
     let mut k = good_until(file, arities, pairs);
     let mut at = 10 + arities.len() + 6 * k;
@@ -76,8 +74,8 @@ fn bad_pair(file: &[u8], arities: &[u8], pairs: usize) -> Place
 // Whether the arities and the pairs keep the rules, in a file that is laid out as its counts ask for. A place in a list fits 16 bits since the
 // list's count, as read, does.
 fn check_lists(file: &[u8], symbols: usize, pairs: usize) -> Checked
-    requires { (symbols ≡ symbolCount file.now) × (pairs ≡ pairCount file.now) × (total symbols pairs ≤ length file.now) }
-    ensures { found result ≡ first (row3 (aritiesIn file.now) ∷ row4 (aritiesIn file.now) (pairsIn file.now) ∷ []) }
+    requires { (symbols ≡ symbol_count_lem file.now) × (pairs ≡ pair_count_lem file.now) × (total symbols pairs ≤ length file.now) }
+    ensures { found result ≡ first (row3 (arities_in file.now) ∷ row4 (arities_in file.now) (pairs_in file.now) ∷ []) }
 {
     let arities = &file[10..10 + symbols];
     match high_arity(arities) {
@@ -91,7 +89,7 @@ fn check_lists(file: &[u8], symbols: usize, pairs: usize) -> Checked
 
 // Whether the bytes are a table, or else the first of the refusals 1 to 4.
 pub fn check(file: &[u8]) -> Checked
-    ensures { found result ≡ first (tableRows file.now) }
+    ensures { found result ≡ first (table_rows file.now) }
 {
     if file.len() < 10 {
         return Checked::Refused(Refusal::Layout);

@@ -2,11 +2,11 @@
 // over single pairs finds the place.
 ghost use Rattle.std.specs.Prelude.{◌≡◌, true, false, not, ◌+◌, ◌≤◌, ◌<◌, length};
 ghost use Rattle.std.proofs.Math.Option.{none};
-ghost use Rattle.theory.specs.Least.{leastBelow};
-ghost use Rattle.meaning.specs.File.{symbolCount, pairCount, total, aritiesIn, pairsIn};
-ghost use Rattle.meaning.specs.Refusals.{badPair};
+ghost use Rattle.theory.specs.Least.{least_below};
+ghost use Rattle.meaning.specs.File.{symbol_count_lem, pair_count_lem, total, arities_in, pairs_in};
+ghost use Rattle.meaning.specs.Refusals.{bad_pair_lem};
 ghost use Rattle.table.specs.Runs.{OrderedRun, AlikeRun};
-ghost use Rattle.sound.specs.Runs.{numbersFrom};
+ghost use Rattle.sound.specs.Runs.{numbers_from};
 
 use table::lanes::{LANES, RUN, lane_fault};
 use table::number::number_at;
@@ -15,7 +15,7 @@ use table::rules::may_follow;
 // Whether the pairs of a run are in order and in their ranges. The pair before them begins at byte `at`.
 fn in_order(file: &[u8], at: usize, symbols: u16) -> bool
     requires { (at + 104 ≤ length file.now) × (2 ≤ symbols) }
-    ensures { result ≡ true → OrderedRun symbols (numbersFrom file.now at) }
+    ensures { result ≡ true → OrderedRun symbols (numbers_from file.now at) }
 {
     let mut fault: u16 = 0;
     for lane in 0..LANES {
@@ -35,8 +35,8 @@ fn in_order(file: &[u8], at: usize, symbols: u16) -> bool
 
 // Whether both symbols of each pair of a run have one arity.
 fn alike(file: &[u8], at: usize, arities: &[u8]) -> bool
-    requires { (at + 104 ≤ length file.now) × OrderedRun (length arities.now) (numbersFrom file.now at) }
-    ensures { result ≡ true → AlikeRun arities.now (numbersFrom file.now at) }
+    requires { (at + 104 ≤ length file.now) × OrderedRun (length arities.now) (numbers_from file.now at) }
+    ensures { result ≡ true → AlikeRun arities.now (numbers_from file.now at) }
 {
     for j in 0..RUN {
         let i = at + 6 * (j + 1);
@@ -51,8 +51,8 @@ fn alike(file: &[u8], at: usize, arities: &[u8]) -> bool
 
 // Whether the first pair is good.
 fn first_good(file: &[u8], arities: &[u8]) -> bool
-    requires { (arities.now ≡ aritiesIn file.now) × (0 < pairCount file.now) × (total (symbolCount file.now) (pairCount file.now) ≤ length file.now) }
-    ensures { result ≡ not (badPair (aritiesIn file.now) (pairsIn file.now) 0) }
+    requires { (arities.now ≡ arities_in file.now) × (0 < pair_count_lem file.now) × (total (symbol_count_lem file.now) (pair_count_lem file.now) ≤ length file.now) }
+    ensures { result ≡ not (bad_pair_lem (arities_in file.now) (pairs_in file.now) 0) }
 {
     let at = 10 + number_at(file, 0) as usize;
     may_follow(
@@ -66,8 +66,8 @@ fn first_good(file: &[u8], arities: &[u8]) -> bool
 
 // So many pairs are good, where the first is: those of the runs after it, up to one that fails, or to the last pair, which is in no run.
 fn runs_until(file: &[u8], arities: &[u8], pairs: usize) -> usize
-    requires { (arities.now ≡ aritiesIn file.now) × (pairs ≡ pairCount file.now) × (total (symbolCount file.now) pairs ≤ length file.now) × (0 < pairs) × (badPair (aritiesIn file.now) (pairsIn file.now) 0 ≡ false) }
-    ensures { (result ≤ pairs) × (leastBelow result (badPair (aritiesIn file.now) (pairsIn file.now)) ≡ none) }
+    requires { (arities.now ≡ arities_in file.now) × (pairs ≡ pair_count_lem file.now) × (total (symbol_count_lem file.now) pairs ≤ length file.now) × (0 < pairs) × (bad_pair_lem (arities_in file.now) (pairs_in file.now) 0 ≡ false) }
+    ensures { (result ≤ pairs) × (least_below result (bad_pair_lem (arities_in file.now) (pairs_in file.now)) ≡ none) }
 {
     let symbols = number_at(file, 0);
     let mut last: usize = 0;
@@ -87,8 +87,8 @@ fn runs_until(file: &[u8], arities: &[u8], pairs: usize) -> usize
 
 // So many pairs, from the first on, are good.
 pub fn good_until(file: &[u8], arities: &[u8], pairs: usize) -> usize
-    requires { (arities.now ≡ aritiesIn file.now) × (pairs ≡ pairCount file.now) × (total (symbolCount file.now) pairs ≤ length file.now) }
-    ensures { (result ≤ pairs) × (leastBelow result (badPair (aritiesIn file.now) (pairsIn file.now)) ≡ none) }
+    requires { (arities.now ≡ arities_in file.now) × (pairs ≡ pair_count_lem file.now) × (total (symbol_count_lem file.now) pairs ≤ length file.now) }
+    ensures { (result ≤ pairs) × (least_below result (bad_pair_lem (arities_in file.now) (pairs_in file.now)) ≡ none) }
 {
     if pairs < RUN + 2 {
         return 0;

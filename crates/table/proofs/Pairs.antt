@@ -9,21 +9,21 @@ use native.Mathlib.Omega.{arith}
 use lib.Dec.{ltb}
 use lib.ListN.{get_or, take, drop}
 use Rattle.theory.specs.Pairs.{pair}
-use Rattle.meaning.specs.File.{number, symbolCount, pairCount, pair_at, pairs_at_lem, aritiesIn, pairs_from, pairsIn}
-use Rattle.meaning.specs.Tables.{pairStart}
-use Rattle.meaning.specs.Refusals.{unsound, badPair}
-use Rattle.meaning.proofs.Bytes.{pair_in}
-use Rattle.table.specs.Keys.{pair_key, keyBefore}
+use Rattle.meaning.specs.File.{number, symbol_count_lem, pair_count_lem, pair_at, pairs_at_lem, arities_in, pairs_from, pairs_in}
+use Rattle.meaning.specs.Tables.{pair_start}
+use Rattle.meaning.specs.Refusals.{unsound, bad_pair_lem}
+use Rattle.meaning.proofs.Bytes.{pair_in_lem}
+use Rattle.table.specs.Keys.{pair_key, key_before_lem}
 use Rattle.table.proofs.Rising.{Short, good_pair}
 
 -- LAW: the part of the file that is lent as its arities
-pub arities_part : (file : List ℕ) (s : ℕ) → s ≡ symbolCount file → take (10 + s - 10) (drop 10 file) ≡ aritiesIn file
-unfolding aritiesIn
-arities_part file s e = let n : 10 + s - 10 ≡ symbolCount file = omega arith in ap (λ n. take n (drop 10 file)) n
+pub arities_part : (file : List ℕ) (s : ℕ) → s ≡ symbol_count_lem file → take (10 + s - 10) (drop 10 file) ≡ arities_in file
+unfolding arities_in
+arities_part file s e = let n : 10 + s - 10 ≡ symbol_count_lem file = omega arith in ap (λ n. take n (drop 10 file)) n
 
 -- LAW: the key that the pair after pair k has to exceed
-pub key_next : (file : List ℕ) (k : ℕ) → k < pairCount file → keyBefore (pairsIn file) (k + 1) ≡ pair_key (pair_at file (pairStart file k))
-key_next file k l = rw (add-one k) (ap pair_key (pair_in file k l))
+pub key_next : (file : List ℕ) (k : ℕ) → k < pair_count_lem file → key_before_lem (pairs_in file) (k + 1) ≡ pair_key (pair_at file (pair_start file k))
+key_next file k l = rw (add-one k) (ap pair_key (pair_in_lem file k l))
 
 module _ (file : List ℕ) (bytes : (i : ℕ) → get_or file i 0 < 256) where
   -- LAW: a number of two bytes
@@ -36,15 +36,15 @@ module _ (file : List ℕ) (bytes : (i : ℕ) → get_or file i 0 < 256) where
   short_from (suc n) i (suc j) = short_from n (i + 6) j
 
   -- LAW: a pair of the file has numbers of two bytes
-  pub short_in : (j : ℕ) → Short (get_or (pairsIn file) j (pair 0 0 0))
-  unfolding pairsIn
-  short_in = short_from (pairCount file) (pairs_at_lem (symbolCount file))
+  pub short_in : (j : ℕ) → Short (get_or (pairs_in file) j (pair 0 0 0))
+  unfolding pairs_in
+  short_in = short_from (pair_count_lem file) (pairs_at_lem (symbol_count_lem file))
 
   -- LAW: pair k is good exactly if what is read at its bytes may be listed and has a key above the one before it
-  pub good_read : (k : ℕ) → k < pairCount file
-      → (not (unsound (aritiesIn file) (pair_at file (pairStart file k))) && ltb (keyBefore (pairsIn file) k) (pair_key (pair_at file (pairStart file k))))
-      ≡ not (badPair (aritiesIn file) (pairsIn file) k)
+  pub good_read : (k : ℕ) → k < pair_count_lem file
+      → (not (unsound (arities_in file) (pair_at file (pair_start file k))) && ltb (key_before_lem (pairs_in file) k) (pair_key (pair_at file (pair_start file k))))
+      ≡ not (bad_pair_lem (arities_in file) (pairs_in file) k)
   good_read k l =
-      subst (λ p. (not (unsound (aritiesIn file) p) && ltb (keyBefore (pairsIn file) k) (pair_key p)) ≡ not (badPair (aritiesIn file) (pairsIn file) k))
-      (pair_in file k l)
-      (good_pair (aritiesIn file) (pairsIn file) k short_in)
+      subst (λ p. (not (unsound (arities_in file) p) && ltb (key_before_lem (pairs_in file) k) (pair_key p)) ≡ not (bad_pair_lem (arities_in file) (pairs_in file) k))
+      (pair_in_lem file k l)
+      (good_pair (arities_in file) (pairs_in file) k short_in)

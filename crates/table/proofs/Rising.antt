@@ -9,9 +9,9 @@ use borrow.Author.Tests.{lt-ltb, le-ltb, eq-eqb, ne_eqb}
 use lib.Dec.{ltb, eqb}
 use lib.ListN.{get_or}
 use Rattle.theory.specs.Pairs.{Pair, pair}
-use Rattle.meaning.specs.Refusals.{unsound, rises, badPair}
+use Rattle.meaning.specs.Refusals.{unsound, rises, bad_pair_lem}
 use Rattle.meaning.proofs.Sound.{sound_pair}
-use Rattle.table.specs.Keys.{key_of, pair_key, keyBefore}
+use Rattle.table.specs.Keys.{key_of, pair_key, key_before_lem}
 
 -- the pair's higher symbol is a number of 16 bits
 abbrev pub Short : Pair → Type 0
@@ -32,7 +32,7 @@ sound_key arities (pair l h d) e = lt-ltb 0 (key_of l h) (omega (arith, (sound_p
 
 -- LAW: a pair is good exactly if it may be listed and its key is above the one before it
 pub good_pair : (arities : List ℕ) (pairs : List Pair) (k : ℕ) → ((j : ℕ) → Short (get_or pairs j (pair 0 0 0)))
-    → (not (unsound arities (get_or pairs k (pair 0 0 0))) && ltb (keyBefore pairs k) (pair_key (get_or pairs k (pair 0 0 0)))) ≡ not (badPair arities pairs k)
+    → (not (unsound arities (get_or pairs k (pair 0 0 0))) && ltb (key_before_lem pairs k) (pair_key (get_or pairs k (pair 0 0 0)))) ≡ not (bad_pair_lem arities pairs k)
 good_pair arities pairs zero s = go (unsound arities (get_or pairs 0 (pair 0 0 0))) refl
   where
     go : (b : Bool) → unsound arities (get_or pairs 0 (pair 0 0 0)) ≡ b → (not b && ltb 0 (pair_key (get_or pairs 0 (pair 0 0 0)))) ≡ not (b || false)

@@ -9,16 +9,16 @@ use native.Mathlib.Omega.{arith}
 use borrow.Author.Tests.{eqb-true, not-false}
 use lib.ListN.{length}
 use lib.Dec.{eqb}
-use Rattle.theory.specs.Least.{or_else, leastBelow}
+use Rattle.theory.specs.Least.{or_else, least_below}
 use Rattle.theory.specs.Pairs.{Pair}
 use Rattle.theory.proofs.Lemmas.{both_false}
-use Rattle.meaning.specs.File.{symbolCount, pairCount, arities_offset, pairs_offset, total_field, pairs_at_lem, total}
+use Rattle.meaning.specs.File.{symbol_count_lem, pair_count_lem, arities_offset, pairs_offset, total_field, pairs_at_lem, total}
 use Rattle.meaning.specs.Refusals.{row, row_place, row1_offsets, row3, row4}
 use Rattle.meaning.proofs.Sound.{at0-none}
 
-least_below : (b : ℕ → Bool) (n k : ℕ) → leastBelow n b ≡ just k → k < n
-least_below b zero k e = absurd (some-ne-none k (sym e))
-least_below b (suc n) k e = go (leastBelow n b) (b n) e (least_below b n k)
+least_below_lem : (b : ℕ → Bool) (n k : ℕ) → least_below n b ≡ just k → k < n
+least_below_lem b zero k e = absurd (some-ne-none k (sym e))
+least_below_lem b (suc n) k e = go (least_below n b) (b n) e (least_below_lem b n k)
   where
     go : (o : Option ℕ) (t : Bool) → or_else o (cond t (just n) none) ≡ just k → (o ≡ just k → k < n) → k < suc n
     go (just i) t e rest = omega (arith, rest e)
@@ -28,21 +28,21 @@ least_below b (suc n) k e = go (leastBelow n b) (b n) e (least_below b n k)
 -- LAW: a symbol whose arity is too high is one of the list's
 pub row3_inside : (arities : List ℕ) (k : ℕ) → row3 arities ≡ row 3 (just k) → k < length arities
 unfolding row3
-row3_inside arities k e = least_below _ (length arities) k (ap row_place e)
+row3_inside arities k e = least_below_lem _ (length arities) k (ap row_place e)
 
 -- LAW: a pair that is bad is one of the list's
 pub row4_inside : (arities : List ℕ) (pairs : List Pair) (k : ℕ) → row4 arities pairs ≡ row 4 (just k) → k < length pairs
 unfolding row4
-row4_inside arities pairs k e = least_below _ (length pairs) k (ap row_place e)
+row4_inside arities pairs k e = least_below_lem _ (length pairs) k (ap row_place e)
 
 -- LAW: a file whose offsets and total are in order is as long as its counts ask for
-pub placed_length : (file : List ℕ) → row1_offsets file ≡ row 1 none → length file ≡ total (symbolCount file) (pairCount file)
+pub placed_length : (file : List ℕ) → row1_offsets file ≡ row 1 none → length file ≡ total (symbol_count_lem file) (pair_count_lem file)
 unfolding row1_offsets
 placed_length file e =
     let a = not (eqb (arities_offset file) 10) in
-    let b = not (eqb (pairs_offset file) (pairs_at_lem (symbolCount file))) in
-    let c = not (eqb (total_field file) (total (symbolCount file) (pairCount file))) in
+    let b = not (eqb (pairs_offset file) (pairs_at_lem (symbol_count_lem file))) in
+    let c = not (eqb (total_field file) (total (symbol_count_lem file) (pair_count_lem file))) in
     let d = not (eqb (total_field file) (length file)) in
     let t = both_false (a || b || c) d (at0-none (a || b || c || d) (ap row_place e)) in
     let u = both_false (a || b) c t.0 in
-    sym (eqb-true (total_field file) (length file) (not-false _ t.1)) ∙ eqb-true (total_field file) (total (symbolCount file) (pairCount file)) (not-false _ u.1)
+    sym (eqb-true (total_field file) (length file) (not-false _ t.1)) ∙ eqb-true (total_field file) (total (symbol_count_lem file) (pair_count_lem file)) (not-false _ u.1)

@@ -12,9 +12,9 @@ use borrow.Author.Tests.{lt-ltb, le-ltb, eq-eqb, not_true}
 use lib.Bits.{bit_or, or_add_and, and_le_l, and_le_r}
 use lib.Dec.{ltb}
 use lib.ListN.{length, get_or}
-use Rattle.theory.specs.Least.{leastBelow}
-use Rattle.theory.specs.Pairs.{Pair, pair, listedTop}
-use Rattle.meaning.specs.Refusals.{unsound, badPair}
+use Rattle.theory.specs.Least.{least_below}
+use Rattle.theory.specs.Pairs.{Pair, pair, listed_top}
+use Rattle.meaning.specs.Refusals.{unsound, bad_pair_lem}
 use Rattle.meaning.proofs.First.{least_on}
 use Rattle.table.specs.Keys.{key_of, pair_key}
 use Rattle.table.specs.Runs.{LanePasses, pair_of, Follows, Next, Alike, OrderedRun, AlikeRun}
@@ -46,14 +46,14 @@ lanes_ordered symbols numbers passes j l =
 tests : (arities : List ℕ) (before lower higher degree : ℕ) → Follows (length arities) before lower higher degree → get_or arities lower 0 ≡ get_or arities higher 0
     → (not (unsound arities (pair lower higher degree)) && ltb before (key_of lower higher)) ≡ true
 tests arities before lower higher degree f alike =
-    rw (lt-ltb lower higher f.rising, lt-ltb higher (length arities) f.inside, eq-eqb (get_or arities lower 0) (get_or arities higher 0) alike, le-ltb degree 1 f.some_degree, le-ltb listedTop degree f.top_degree, lt-ltb before (key_of lower higher) f.after)
+    rw (lt-ltb lower higher f.rising, lt-ltb higher (length arities) f.inside, eq-eqb (get_or arities lower 0) (get_or arities higher 0) alike, le-ltb degree 1 f.some_degree, le-ltb listed_top degree f.top_degree, lt-ltb before (key_of lower higher) f.after)
 
 module _ (arities : List ℕ) (pairs : List Pair) (short : (j : ℕ) → Short (get_or pairs j (pair 0 0 0))) where
   abbrev at : ℕ → Pair
   at k = get_or pairs k (pair 0 0 0)
 
   abbrev bad : ℕ → Bool
-  bad = badPair arities pairs
+  bad = bad_pair_lem arities pairs
 
   next_tests : (p q : Pair) → Next (length arities) p q → Alike arities q → (not (unsound arities q) && ltb (pair_key p) (pair_key q)) ≡ true
   next_tests p (pair lower higher degree) next alike = tests arities (pair_key p) lower higher degree next alike
@@ -62,13 +62,13 @@ module _ (arities : List ℕ) (pairs : List Pair) (short : (j : ℕ) → Short (
   good_next k next alike = not_true _ (sym (good_pair arities pairs (suc k) short) ∙ next_tests (at k) (at (suc k)) next alike)
 
   -- where n pairs after pair k are good, no pair is bad up to their end
-  good_on : (k n : ℕ) → leastBelow (suc k) bad ≡ none → ((j : ℕ) → j < n → bad (suc (k + j)) ≡ false) → leastBelow (suc (k + n)) bad ≡ none
+  good_on : (k n : ℕ) → least_below (suc k) bad ≡ none → ((j : ℕ) → j < n → bad (suc (k + j)) ≡ false) → least_below (suc (k + n)) bad ≡ none
   good_on k zero e good = simp unary_clauses e
   good_on k (suc n) e good = simp unary_clauses (least_on bad (suc (k + n)) (good_on k n e (λ j l. good j (omega arith))) (good n (omega arith)))
 
   -- LAW: where a run comes after a pair up to which none is bad, and passes, none is bad up to its end
   pub run_good : (k : ℕ) (numbers : ℕ → ℕ) → ((j : ℕ) → j < 17 → pair_of numbers j ≡ at (k + j)) → OrderedRun (length arities) numbers → AlikeRun arities numbers
-      → leastBelow (k + 1) bad ≡ none → leastBelow (k + 16 + 1) bad ≡ none
+      → least_below (k + 1) bad ≡ none → least_below (k + 16 + 1) bad ≡ none
   run_good k numbers same ordered alike e = rw (add-one (k + 16)) (good_on k 16 (rw (add-one k) at e) good)
     where
       good : (j : ℕ) → j < 16 → bad (suc (k + j)) ≡ false

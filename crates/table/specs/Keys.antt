@@ -9,6 +9,6 @@ abbrev pub pair_key : Pair → ℕ
 pair_key (pair lower higher degree) = key_of lower higher
 
 -- the key of the pair before the one at k; 0, below every key of a pair that may be listed, before the first
-abbrev pub keyBefore : List Pair → ℕ → ℕ
-keyBefore pairs zero = 0
-keyBefore pairs (suc k) = pair_key (get_or pairs k (pair 0 0 0))
+abbrev pub key_before_lem : List Pair → ℕ → ℕ
+key_before_lem pairs zero = 0
+key_before_lem pairs (suc k) = pair_key (get_or pairs k (pair 0 0 0))

@@ -1,7 +1,7 @@
 -- Runs of 16 pairs. A run is seen as its numbers, three to a pair, from the pair before it on: that one has the numbers 0 to 2, the run's first pair
 -- 3 to 5. Lane l is about number l + 4.
 use Rattle.std.specs.Prelude.{◌≡◌, List, ℕ, ◌+◌, ◌*◌, ◌%◌, ◌≤◌, ◌<◌, get_or}
-use Rattle.theory.specs.Pairs.{Pair, pair, listedTop}
+use Rattle.theory.specs.Pairs.{Pair, pair, listed_top}
 use Rattle.table.specs.Keys.{key_of, pair_key}
 
 -- ---- one number
@@ -9,7 +9,7 @@ use Rattle.table.specs.Keys.{key_of, pair_key}
 -- a higher symbol is above its lower one and a symbol of the table, and their pair comes after the one before; a degree may be listed
 abbrev pub Passes : ℕ → ℕ → ℕ → ℕ → ℕ → ℕ → Type 0
 Passes lane symbols low high lower here =
-    (lane % 3 ≡ 0 → (lower < here) × (here < symbols) × (key_of low high < key_of lower here)) × (lane % 3 ≡ 1 → (1 ≤ here) × (here ≤ listedTop))
+    (lane % 3 ≡ 0 → (lower < here) × (here < symbols) × (key_of low high < key_of lower here)) × (lane % 3 ≡ 1 → (1 ≤ here) × (here ≤ listed_top))
 
 abbrev pub LanePasses : ℕ → (ℕ → ℕ) → ℕ → Type 0
 LanePasses symbols numbers lane = Passes lane symbols (numbers lane) (numbers (lane + 1)) (numbers (lane + 3)) (numbers (lane + 4))
@@ -25,7 +25,7 @@ pub record Follows (symbols before lower higher degree : ℕ) : Type 0 where
   pub rising : lower < higher
   pub inside : higher < symbols
   pub some_degree : 1 ≤ degree
-  pub top_degree : degree ≤ listedTop
+  pub top_degree : degree ≤ listed_top
   pub after : before < key_of lower higher
 
 abbrev pub Next : ℕ → Pair → Pair → Type 0

@@ -3,7 +3,7 @@
 // and the compiler makes eight at a time. A test tells a fault, which is 0 only if nothing is wrong, and faults are joined by `|`. What
 // a fault is, and where, is not told: for that the pairs are gone over one by one.
 ghost use Rattle.std.specs.Prelude.{◌≡◌, true, ◌+◌, ◌%◌, ◌≤◌, ◌<◌};
-ghost use Rattle.theory.specs.Pairs.{listedTop};
+ghost use Rattle.theory.specs.Pairs.{listed_top};
 ghost use Rattle.table.specs.Keys.{key_of};
 ghost use Rattle.table.specs.Runs.{Passes};
 
@@ -46,7 +46,7 @@ fn disorder(low: u16, high: u16, lower: u16, less: u16) -> u16
 // in turn; that one may be anything here, as it is tested with its higher symbol.
 fn limit(lane: usize, symbols: u16) -> u16
     requires { 2 ≤ symbols }
-    ensures { (lane % 3 ≡ 0 → result + 2 ≡ symbols) × (lane % 3 ≡ 1 → result + 1 ≡ listedTop) }
+    ensures { (lane % 3 ≡ 0 → result + 2 ≡ symbols) × (lane % 3 ≡ 1 → result + 1 ≡ listed_top) }
 {
     if lane % 3 == 0 {
         return symbols - 2;

@@ -1,6 +1,4 @@
 // The table file: the rules that its arities and pairs keep, and what it says of its symbols and pairs.
-#![tactic(auto)]
-
 pub mod lanes;
 pub mod number;
 pub mod read;

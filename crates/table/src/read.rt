@@ -1,10 +1,10 @@
 // What a table file says outright: how many symbols and pairs it has, each symbol's arity, each pair.
 ghost use Rattle.std.specs.Prelude.{◌≡◌, ◌+◌, ◌<◌, ◌≤◌, length, get_or};
 ghost use Rattle.theory.specs.Pairs.{pair};
-ghost use Rattle.meaning.specs.Limits.{mostSymbols};
-ghost use Rattle.meaning.specs.File.{pairCount, pair_at, pairsIn, tableIn};
+ghost use Rattle.meaning.specs.Limits.{most_symbols};
+ghost use Rattle.meaning.specs.File.{pair_count_lem, pair_at, pairs_in, table_in};
 ghost use Rattle.meaning.specs.Refusals.{SoundFile};
-ghost use Rattle.table.specs.Read.{pairIn, Counted};
+ghost use Rattle.table.specs.Read.{pair_in, Counted};
 
 use crate::number::number_at;
 
@@ -19,14 +19,14 @@ pub struct Pair {
 
 pub fn symbol_count(file: &[u8]) -> u16
     requires { SoundFile file.now }
-    ensures { (result ≡ (tableIn file.now).size) × (result ≤ mostSymbols) }
+    ensures { (result ≡ (table_in file.now).size) × (result ≤ most_symbols) }
 {
     number_at(file, 0)
 }
 
 pub fn pair_count(file: &[u8]) -> u16
     requires { SoundFile file.now }
-    ensures { result ≡ pairCount file.now }
+    ensures { result ≡ pair_count_lem file.now }
 {
     number_at(file, 2)
 }
@@ -49,8 +49,8 @@ pub fn counts_of(file: &[u8]) -> Counts
 }
 
 pub fn arity(file: &[u8], symbol: u16) -> u8
-    requires { SoundFile file.now × (symbol < (tableIn file.now).size) }
-    ensures { (result ≡ (tableIn file.now).arity symbol) × (result ≤ 8) }
+    requires { SoundFile file.now × (symbol < (table_in file.now).size) }
+    ensures { (result ≡ (table_in file.now).arity symbol) × (result ≤ 8) }
 {
     file[10 + symbol as usize]
 }
@@ -58,7 +58,7 @@ pub fn arity(file: &[u8], symbol: u16) -> u8
 // The pair whose bytes start at i.
 pub fn pair_from(bytes: &[u8], i: usize) -> Pair
     requires { i + 5 < length bytes.now }
-    ensures { pairIn result ≡ pair_at bytes.now i }
+    ensures { pair_in result ≡ pair_at bytes.now i }
 {
     Pair {
         lower: number_at(bytes, i),
@@ -68,8 +68,8 @@ pub fn pair_from(bytes: &[u8], i: usize) -> Pair
 }
 
 pub fn pair_at(file: &[u8], k: usize) -> Pair
-    requires { SoundFile file.now × (k < pairCount file.now) }
-    ensures { pairIn result ≡ get_or (pairsIn file.now) k (pair 0 0 0) }
+    requires { SoundFile file.now × (k < pair_count_lem file.now) }
+    ensures { pair_in result ≡ get_or (pairs_in file.now) k (pair 0 0 0) }
 {
     pair_from(file, 10 + symbol_count(file) as usize + 6 * k)
 }

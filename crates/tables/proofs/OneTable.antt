@@ -6,7 +6,7 @@ use Prim.Native.Nat.{ℕ}
 use Rattle.theory.specs.Pairs.{Pair as Listing, pair}
 use Rattle.meaning.specs.Calls.{Answer, refused, gives, Yes}
 use Rattle.refusal.proofs.One.{one_refusal, gives_none}
-use Rattle.table.specs.Read.{pairIn}
+use Rattle.table.specs.Read.{pair_in}
 use Rattle.table.specs.declared.read.Pair.{Pair}
 use Rattle.tables.specs.declared.TableAnswer.{TableAnswer}
 use Rattle.tables.specs.declared.TableAnswer.TheVariants.{Table, Refused as NoTable}
@@ -40,7 +40,7 @@ abbrev struct_of : Answer Listing → Pair
 struct_of (gives (pair lower higher degree)) = record { lower = lower; higher = higher; degree = degree }
 struct_of (refused n place) = record { lower = 0; higher = 0; degree = 0 }
 
-one_pair : (p q : Pair) → gives (pairIn p) ≡ gives (pairIn q) → p ≡ q
+one_pair : (p q : Pair) → gives (pair_in p) ≡ gives (pair_in q) → p ≡ q
 one_pair p q e = ap struct_of e
 
 one_said_pair : (r s : PairAnswer) → said_pair r ≡ said_pair s → r ≡ s

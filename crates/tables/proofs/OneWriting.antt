@@ -4,7 +4,7 @@ use mathlib.Core.Path.{◌≡◌, sym, ◌∙◌}
 use mathlib.Core.List.{List, ◌++◌}
 use Prim.Native.Nat.{ℕ, ◌≤◌}
 use lib.ListN.{length, drop}
-use Rattle.meaning.specs.File.{pairsOf, numbersOf, aritiesIn, pairsIn}
+use Rattle.meaning.specs.File.{pairs_of, numbers_of_lem, arities_in, pairs_in}
 use Rattle.meaning.specs.Refusals.{SoundFile}
 use Rattle.meaning.specs.Tables.{Bytes, Writes}
 use Rattle.writer.specs.Said.{said}
@@ -22,11 +22,11 @@ module _ (arities numbers output : List ℕ) where
 
   -- THEOREM: what was written is a table, which reads back to the same arities and pairs; all else stays
   pub writes_back : (r : Writing) (later : List ℕ) → WriteTable arities numbers output r later
-      → Writes arities (pairsOf numbers) output (record { answer = said r; output = later })
-  writes_back r later p = read_back arities (pairsOf numbers) output r later p.answers p.leaves
+      → Writes arities (pairs_of numbers) output (record { answer = said r; output = later })
+  writes_back r later p = read_back arities (pairs_of numbers) output r later p.answers p.leaves
 
 -- THEOREM: what was read from a table is written as the table's own bytes
 pub writes_again : (table output : List ℕ) → Bytes table → SoundFile table → length table ≤ length output
-    → (r : Writing) (later : List ℕ) → WriteTable (aritiesIn table) (numbersOf (pairsIn table)) output r later
+    → (r : Writing) (later : List ℕ) → WriteTable (arities_in table) (numbers_of_lem (pairs_in table)) output r later
     → (r ≡ Written (length table)) × (later ≡ table ++ drop (length table) output)
-writes_again table output b s l r later p = written-again table output b s l (pairsOf (numbersOf (pairsIn table))) (pairs_of_numbers (pairsIn table)) r later p.answers p.leaves
+writes_again table output b s l r later p = written-again table output b s l (pairs_of (numbers_of_lem (pairs_in table))) (pairs_of_numbers (pairs_in table)) r later p.answers p.leaves

@@ -4,7 +4,7 @@ use Rattle.std.specs.Prelude.{◌≡◌, List, ℕ}
 use Rattle.theory.specs.Pairs.{Pair as Listing}
 use Rattle.meaning.specs.Calls.{Answer, gives, Yes, aye, is_table_lem, symbol_degree_lem, arity_back, pair_back}
 use Rattle.refusal.specs.Told.{refused_by}
-use Rattle.table.specs.Read.{pairIn}
+use Rattle.table.specs.Read.{pair_in}
 use Rattle.tables.specs.declared.TableAnswer.{TableAnswer}
 use Rattle.tables.specs.declared.TableAnswer.TheVariants.{Table, Refused as NoTable}
 use Rattle.tables.specs.declared.DegreeAnswer.{DegreeAnswer}
@@ -42,7 +42,7 @@ abbrev pub ArityOf : List ℕ → ℕ → ArityAnswer → Type 0
 ArityOf table symbol r = said_arity r ≡ arity_back table symbol
 
 abbrev pub said_pair : PairAnswer → Answer Listing
-said_pair (Listed pair) = gives (pairIn pair)
+said_pair (Listed pair) = gives (pair_in pair)
 said_pair (NoPair why) = refused_by why
 
 abbrev pub PairAt : List ℕ → ℕ → PairAnswer → Type 0

@@ -15,21 +15,21 @@ use Rattle.theory.proofs.Flat.{flat, flat_top, degree_flat, degree_top, reach_si
 use Rattle.theory.proofs.More.{degree_itself, degree_either}
 use Rattle.theory.proofs.Decoding.{heading_of_lem}
 use Rattle.theory.proofs.Draw.{over-at}
-use Rattle.meaning.specs.File.{tableIn}
+use Rattle.meaning.specs.File.{table_in}
 use Rattle.meaning.specs.Refusals.{SoundFile}
 use Rattle.meaning.proofs.Sound.{sound}
 use Rattle.meaning.proofs.Drawn.{get_d_any}
-use Rattle.terms.specs.Degrees.{Heading, degreeOf}
+use Rattle.terms.specs.Degrees.{Heading, degree_of}
 
 -- At index i of a loop over both lists: the lesser of `least` and what is left of them from there on is their degree.
 pub record Left (T : Table) (one two : List ℕ) (i least : ℕ) : Type 0 where
   pub inside : i ≤ length one
   pub bounded : least ≤ 1000
-  pub lesser : min least (flat T.deg (drop i one) (drop i two)) ≡ degreeOf T one two
+  pub lesser : min least (flat T.deg (drop i one) (drop i two)) ≡ degree_of T one two
 
 module _ (file : List ℕ) (s : SoundFile file) where
   abbrev T : Table
-  T = tableIn file
+  T = table_in file
 
   written : (xs : List ℕ) → Heading T xs → Over T (term_of T xs) × (xs ≡ enc (term_of T xs))
   written = heading_of_lem T (omega (arith, (sound file s).small))
@@ -44,23 +44,23 @@ module _ (file : List ℕ) (s : SoundFile file) where
       omega (arith, over-at T t w.0 i m)
 
   -- LAW: the degree of two headings is the same in either order
-  pub headings_either : (one two : List ℕ) → degreeOf T one two ≡ degreeOf T two one
+  pub headings_either : (one two : List ℕ) → degree_of T one two ≡ degree_of T two one
   headings_either one two = degree_either T (sound file s).lawful (term_of T one) (term_of T two)
 
   -- LAW: .. at most 1000
-  pub headings_top : (one two : List ℕ) → degreeOf T one two ≤ 1000
+  pub headings_top : (one two : List ℕ) → degree_of T one two ≤ 1000
   headings_top one two = degree_top T (sound file s).lawful (term_of T one) (term_of T two)
 
   -- LAW: .. and 1000 of a heading with itself
-  pub heading_itself : (one : List ℕ) → Heading T one → degreeOf T one one ≡ 1000
+  pub heading_itself : (one : List ℕ) → Heading T one → degree_of T one one ≡ 1000
   heading_itself one h = degree_itself T (sound file s).lawful (term_of T one) (written one h).0
 
   module _ (one two : List ℕ) (h : Heading T one) (k : Heading T two) where
     -- LAW: headings of unlike length have degree 0
-    pub unlike : (length one ≡ length two → ⊥) → 0 ≡ degreeOf T one two
-    unlike n = go (degreeOf T one two) refl
+    pub unlike : (length one ≡ length two → ⊥) → 0 ≡ degree_of T one two
+    unlike n = go (degree_of T one two) refl
       where
-        go : (d : ℕ) → degreeOf T one two ≡ d → 0 ≡ degreeOf T one two
+        go : (d : ℕ) → degree_of T one two ≡ d → 0 ≡ degree_of T one two
         go zero e = sym e
         go (suc d) e =
             let a = written one h in
@@ -73,7 +73,7 @@ module _ (file : List ℕ) (s : SoundFile file) where
         let a = written one h in
         let b = written two k in
         let e = degree_flat T (sound file s).lawful (term_of T one) (term_of T two) a.0 b.0 in
-        let l : min 1000 (flat T.deg one two) ≡ degreeOf T one two = omega (arith, flat_top T.deg one two, ap₂ (flat T.deg) a.1 b.1, e) in
+        let l : min 1000 (flat T.deg one two) ≡ degree_of T one two = omega (arith, flat_top T.deg one two, ap₂ (flat T.deg) a.1 b.1, e) in
         record { inside = omega arith; bounded = omega arith; lesser = l }
 
 module _ (T : Table) (one two : List ℕ) (i least : ℕ) (left : Left T one two i least) where
@@ -84,11 +84,11 @@ module _ (T : Table) (one two : List ℕ) (i least : ℕ) (left : Left T one two
       record { inside = omega arith; bounded = omega (arith, left.bounded); lesser = omega (arith, left.lesser, q) }
 
   -- a position of degree 0: nothing that is left can change it
-  pub no_less : i < length one → i < length two → 0 ≡ T.deg (get_or one i 0) (get_or two i 0) → 0 ≡ degreeOf T one two
+  pub no_less : i < length one → i < length two → 0 ≡ T.deg (get_or one i 0) (get_or two i 0) → 0 ≡ degree_of T one two
   no_less l m e = omega (arith, (one_less 0 0 l m e (omega arith)).lesser)
 
   -- nothing is left
-  pub none_left : length one ≤ i → length one ≡ length two → least ≡ degreeOf T one two
+  pub none_left : length one ≤ i → length one ≡ length two → least ≡ degree_of T one two
   none_left l m =
       let e : i ≡ length one = omega (arith, left.inside) in
       let q : flat T.deg (drop i one) (drop i two) ≡ 1000 = ap₂ (flat T.deg) (ap (λ j. drop j one) e ∙ drop-length one) (ap (λ j. drop j two) (e ∙ m) ∙ drop-length two) in

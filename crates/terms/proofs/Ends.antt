@@ -10,7 +10,7 @@ use Rattle.theory.specs.Table.{Table}
 use Rattle.theory.specs.Read.{reading, whole}
 use Rattle.theory.proofs.Reading.{walk_enc}
 use Rattle.theory.proofs.Decoding.{read_whole}
-use Rattle.meaning.specs.File.{tableIn}
+use Rattle.meaning.specs.File.{table_in}
 use Rattle.meaning.specs.Refusals.{SoundFile}
 use Rattle.meaning.proofs.Parts.{sub_at}
 use Rattle.meaning.proofs.Sound.{sound}
@@ -37,6 +37,6 @@ ends_over T small vars xs e i l =
     }
 
 -- LAW: in a list that is a term over a file's table, a subterm ends from every index
-pub ends_in : (file : List ℕ) → SoundFile file → (vars : Bool) (xs : List ℕ) → reading (tableIn file) vars xs ≡ whole → (i : ℕ) → i < length xs
-    → EndsIn (tableIn file) vars xs i
-ends_in file s = ends_over (tableIn file) (omega (arith, (sound file s).small))
+pub ends_in : (file : List ℕ) → SoundFile file → (vars : Bool) (xs : List ℕ) → reading (table_in file) vars xs ≡ whole → (i : ℕ) → i < length xs
+    → EndsIn (table_in file) vars xs i
+ends_in file s = ends_over (table_in file) (omega (arith, (sound file s).small))

@@ -8,7 +8,7 @@ use lib.Dec.{ltb, leb}
 use borrow.Author.Tests.{ltb-true, leb-true, lt-ltb, le-ltb, le-leb, lt-leb}
 use Rattle.theory.specs.Table.{Table}
 use Rattle.theory.specs.Read.{permitted, width}
-use Rattle.meaning.specs.Limits.{variableCount}
+use Rattle.meaning.specs.Limits.{variable_count}
 use Rattle.terms.specs.Kinds.{kind_of, may_stand, arity_of_lem}
 use Rattle.terms.specs.declared.kind.Kind.{Kind}
 use Rattle.terms.specs.declared.kind.Kind.TheVariants.{Symbol, Variable, Neither}
@@ -43,12 +43,12 @@ module _ (s x : ℕ) where
       go false l false e = let z : ◌≡◌ {A = ℕ} 0 1 = cc in absurd (omega arith)
 
   -- LAW: .. whose kind is a variable is that variable, and there are 32
-  pub variable_kind : (v : ℕ) → kind_of s x ≡ Variable v → (x ≡ 32768 + v) × (v < variableCount)
+  pub variable_kind : (v : ℕ) → kind_of s x ≡ Variable v → (x ≡ 32768 + v) × (v < variable_count)
   unfolding kind_of
   variable_kind v e = go (ltb x s) (leb 32768 x) refl (ltb x 32800) refl e
     where
       go : (a b : Bool) → leb 32768 x ≡ b → (c : Bool) → ltb x 32800 ≡ c → cond a (Symbol x) (cond (b && c) (Variable (x - 32768)) Neither) ≡ Variable v
-          → (x ≡ 32768 + v) × (v < variableCount)
+          → (x ≡ 32768 + v) × (v < variable_count)
       go true b p c q e = let z : ◌≡◌ {A = ℕ} 0 1 = cc in absurd (omega arith)
       go false false p c q e = let z : ◌≡◌ {A = ℕ} 0 1 = cc in absurd (omega arith)
       go false true p false q e = let z : ◌≡◌ {A = ℕ} 0 1 = cc in absurd (omega arith)

@@ -9,5 +9,5 @@ abbrev pub Heading : Table → List ℕ → Type 0
 Heading T xs = reading T false xs ≡ whole
 
 -- The degree of the terms that two lists write.
-abbrev pub degreeOf : Table → List ℕ → List ℕ → ℕ
-degreeOf T one two = degree T (term_of T one) (term_of T two)
+abbrev pub degree_of : Table → List ℕ → List ℕ → ℕ
+degree_of T one two = degree T (term_of T one) (term_of T two)

@@ -10,6 +10,6 @@ use Rattle.terms.specs.declared.head.Head.TheVariants.{Takes, Barred}
 unfoldable pub following : Table → Bool → ℕ → Option ℕ
 following T vars x = cond (permitted T vars x) (just (width T vars x)) none
 
-abbrev pub takesIn : Head → Option ℕ
-takesIn (Takes n) = just n
-takesIn Barred = none
+abbrev pub takes_in : Head → Option ℕ
+takes_in (Takes n) = just n
+takes_in Barred = none

@@ -3,6 +3,6 @@ use Rattle.theory.specs.Read.{Reading as Read, whole, faulty}
 use Rattle.terms.specs.declared.reading.Reading.{Reading}
 use Rattle.terms.specs.declared.reading.Reading.TheVariants.{Whole, Fault}
 
-abbrev pub readingIn : Reading → Read
-readingIn Whole = whole
-readingIn (Fault i) = faulty i
+abbrev pub reading_in : Reading → Read
+reading_in Whole = whole
+reading_in (Fault i) = faulty i

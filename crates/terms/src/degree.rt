@@ -1,10 +1,10 @@
 // The degree of two headings.
 ghost use Rattle.std.specs.Prelude.{◌≡◌, length};
-ghost use Rattle.meaning.specs.File.{tableIn};
+ghost use Rattle.meaning.specs.File.{table_in};
 ghost use Rattle.meaning.specs.Refusals.{SoundFile};
 ghost use Rattle.table.specs.Read.{Counted};
 ghost use Rattle.degrees.specs.Rows.{Rows};
-ghost use Rattle.terms.specs.Degrees.{Heading, degreeOf};
+ghost use Rattle.terms.specs.Degrees.{Heading, degree_of};
 
 use degrees::rows::{degree_in_row, lay_where_worth};
 use sets::SymbolSet;
@@ -20,8 +20,8 @@ const ALL_ROWS: usize = 2 * SymbolSet::ROOM as usize;
 // The least degree over the positions of two headings of one length.
 fn least_degree(file: &[u8], counts: Counts, rows: &[u16], one: &[u16], two: &[u16]) -> u16
     requires counted { Counted file.now counts × Rows file.now rows.now }
-    requires heading { Heading (tableIn file.now) one.now × Heading (tableIn file.now) two.now × (length one.now ≡ length two.now) }
-    ensures { result ≡ degreeOf (tableIn file.now) one.now two.now }
+    requires heading { Heading (table_in file.now) one.now × Heading (table_in file.now) two.now × (length one.now ≡ length two.now) }
+    ensures { result ≡ degree_of (table_in file.now) one.now two.now }
 {
     let mut least: u16 = 1000;
     let mut i: usize = 0;
@@ -40,8 +40,8 @@ fn least_degree(file: &[u8], counts: Counts, rows: &[u16], one: &[u16], two: &[u
 
 // The degree of two headings. Near symbols have equal arities, so lists of unlike length have a position of degree 0.
 pub fn heading_degree(file: &[u8], one: &[u16], two: &[u16]) -> u16
-    requires { SoundFile file.now × Heading (tableIn file.now) one.now × Heading (tableIn file.now) two.now }
-    ensures { result ≡ degreeOf (tableIn file.now) one.now two.now }
+    requires { SoundFile file.now × Heading (table_in file.now) one.now × Heading (table_in file.now) two.now }
+    ensures { result ≡ degree_of (table_in file.now) one.now two.now }
 {
     if one.len() != two.len() {
         return 0;

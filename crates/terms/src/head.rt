@@ -1,8 +1,8 @@
 // How many arguments follow a node, where it may stand in a term.
 ghost use Rattle.std.specs.Prelude.{◌≡◌};
-ghost use Rattle.meaning.specs.File.{tableIn};
+ghost use Rattle.meaning.specs.File.{table_in};
 ghost use Rattle.meaning.specs.Refusals.{SoundFile};
-ghost use Rattle.terms.specs.Heads.{following, takesIn};
+ghost use Rattle.terms.specs.Heads.{following, takes_in};
 
 use crate::kind::{Kind, kind_of};
 use table::read::{arity, symbol_count};
@@ -18,7 +18,7 @@ pub enum Head {
 
 pub fn head_of(file: &[u8], variables: bool, node: u16) -> Head
     requires { SoundFile file.now }
-    ensures { takesIn result ≡ following (tableIn file.now) variables node }
+    ensures { takes_in result ≡ following (table_in file.now) variables node }
 {
     match kind_of(symbol_count(file), node) {
         Kind::Symbol(symbol) => Head::Takes(arity(file, symbol)),

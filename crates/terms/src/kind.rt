@@ -1,6 +1,6 @@
 // What kind of node a number is.
 ghost use Rattle.std.specs.Prelude.{◌≡◌, ◌≤◌};
-ghost use Rattle.meaning.specs.Limits.{mostSymbols};
+ghost use Rattle.meaning.specs.Limits.{most_symbols};
 ghost use Rattle.terms.specs.Kinds.{kind_of};
 
 use sets::SymbolSet;
@@ -22,7 +22,7 @@ const LAST_VARIABLE: u16 = FIRST_VARIABLE + 31;
 
 // The kind of a node over a table of so many symbols.
 pub fn kind_of(symbols: u16, node: u16) -> Kind
-    requires { symbols ≤ mostSymbols }
+    requires { symbols ≤ most_symbols }
     ensures { result ≡ kind_of symbols node }
 {
     match node {

@@ -1,9 +1,9 @@
 // Whether a list is a term.
 ghost use Rattle.std.specs.Prelude.{◌≡◌, ◌≤◌};
 ghost use Rattle.theory.specs.Read.{reading};
-ghost use Rattle.meaning.specs.File.{tableIn};
+ghost use Rattle.meaning.specs.File.{table_in};
 ghost use Rattle.meaning.specs.Refusals.{SoundFile};
-ghost use Rattle.terms.specs.Readings.{readingIn};
+ghost use Rattle.terms.specs.Readings.{reading_in};
 ghost use Rattle.terms.specs.Levels.{StayOpen};
 
 use crate::head::{Head, head_of};
@@ -43,7 +43,7 @@ fn still_open(levels: &[u8; MOST_DEPTH], depth: usize) -> usize
 // numbers of `outer` are how many on each level around it. A node is one subterm of its level, and opens a level for its arguments.
 pub fn read(file: &[u8], variables: bool, list: &[u16]) -> Reading
     requires { SoundFile file.now }
-    ensures { readingIn result ≡ reading (tableIn file.now) variables list.now }
+    ensures { reading_in result ≡ reading (table_in file.now) variables list.now }
 {
     if list.len() > MOST_NODES as usize {
         return Reading::Fault(MOST_NODES);

@@ -1,7 +1,7 @@
 // Where the term that begins at an index ends.
 ghost use Rattle.std.specs.Prelude.{◌≡◌, true, ◌<◌, ◌≤◌, length};
 ghost use Rattle.theory.specs.Read.{walk, ends};
-ghost use Rattle.meaning.specs.File.{tableIn};
+ghost use Rattle.meaning.specs.File.{table_in};
 ghost use Rattle.meaning.specs.Refusals.{SoundFile};
 ghost use Rattle.terms.specs.Ends.{EndsIn};
 
@@ -10,8 +10,8 @@ use table::read::{arity, symbol_count};
 // Where the subterm that begins at an index ends, whether variables stand in it or not. A node is the first of one of the terms that are to
 // come, and its arguments come in that one's place, so the subterm ends where none is to come any more.
 pub fn end_from(file: &[u8], list: &[u16], at: usize) -> usize
-    requires { SoundFile file.now × EndsIn (tableIn file.now) true list.now at }
-    ensures at_value { walk (tableIn file.now) true list.now 64 at ≡ ends result }
+    requires { SoundFile file.now × EndsIn (table_in file.now) true list.now at }
+    ensures at_value { walk (table_in file.now) true list.now 64 at ≡ ends result }
     ensures lower_bound { (at < result) × (result ≤ length list.now) }
 {
     let symbols = symbol_count(file);

@@ -1,6 +1,4 @@
 // Text put into a buffer: each function puts its text from a place on and answers the place after it.
-#![tactic(auto)]
-
 ghost use Rattle.std.specs.Prelude.{[], ◌∷◌, ◌+◌, ◌^◌, ◌≤◌, ◌<◌, length};
 ghost use Rattle.meaning.specs.Program.{digits};
 ghost use Rattle.text.specs.Texts.{PutBy, numeral};

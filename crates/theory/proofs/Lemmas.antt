@@ -9,7 +9,7 @@ use native.Mathlib.Decide.{dec_lt, dec_le}
 use native.Mathlib.Omega.{arith}
 use mathlib.Core.Option.{Option, none, some as just, some-ne-none, some-injective}
 use lib.ListN.{length, get_or}
-use Rattle.theory.specs.Least.{least, All, every, some, lowest, highest, or_else, leastBelow}
+use Rattle.theory.specs.Least.{least, All, every, some, lowest, highest, or_else, least_below}
 
 module _ {A : Type 0} where
   pub least_top : (f : A → ℕ) (xs : List A) → least f xs ≤ 1000
@@ -188,12 +188,12 @@ choose n P f = ((λ k. value k (dec_lt k n)), (λ k l. proof k l (dec_lt k n)))
 
 -- ---- the least number that passes a test
 
-pub least-none : (n : ℕ) (b : ℕ → Bool) → leastBelow n b ≡ none → (w : ℕ) → w < n → b w ≡ false
+pub least-none : (n : ℕ) (b : ℕ → Bool) → least_below n b ≡ none → (w : ℕ) → w < n → b w ≡ false
 least-none zero b e w l = absurd (not-suc-le-zero l)
-least-none (suc n) b e w l = go (leastBelow n b) refl (b n) refl e (least-none n b)
+least-none (suc n) b e w l = go (least_below n b) refl (b n) refl e (least-none n b)
   where
-    go : (o : Option ℕ) → leastBelow n b ≡ o → (t : Bool) → b n ≡ t → or_else o (cond t (just n) none) ≡ none
-        → (leastBelow n b ≡ none → (w : ℕ) → w < n → b w ≡ false) → b w ≡ false
+    go : (o : Option ℕ) → least_below n b ≡ o → (t : Bool) → b n ≡ t → or_else o (cond t (just n) none) ≡ none
+        → (least_below n b ≡ none → (w : ℕ) → w < n → b w ≡ false) → b w ≡ false
     go (just i) q t r e rest = absurd (some-ne-none i e)
     go none q true r e rest = absurd (some-ne-none n e)
     go none q false r e rest = last_or_below {P = λ w. b w ≡ false} n r (rest q) w l
@@ -202,11 +202,11 @@ pub record LeastAt (b : ℕ → Bool) (v : ℕ) : Type 0 where
   pub passes : b v ≡ true
   pub least : (w : ℕ) → w < v → b w ≡ false
 
-pub least_just : (n : ℕ) (b : ℕ → Bool) (v : ℕ) → leastBelow n b ≡ just v → LeastAt b v
+pub least_just : (n : ℕ) (b : ℕ → Bool) (v : ℕ) → least_below n b ≡ just v → LeastAt b v
 least_just zero b v e = absurd (some-ne-none v (inv e))
-least_just (suc n) b v e = go (leastBelow n b) refl (b n) refl e (least_just n b v)
+least_just (suc n) b v e = go (least_below n b) refl (b n) refl e (least_just n b v)
   where
-    go : (o : Option ℕ) → leastBelow n b ≡ o → (t : Bool) → b n ≡ t → or_else o (cond t (just n) none) ≡ just v → (leastBelow n b ≡ just v → LeastAt b v) → LeastAt b v
+    go : (o : Option ℕ) → least_below n b ≡ o → (t : Bool) → b n ≡ t → or_else o (cond t (just n) none) ≡ just v → (least_below n b ≡ just v → LeastAt b v) → LeastAt b v
     go (just i) q t r e rest = rest (q ∙ e)
     go none q true r e rest = subst (LeastAt b) (some-injective n v e) (record { passes = r; least = least-none n b q })
     go none q false r e rest = absurd (some-ne-none v (inv e))

@@ -11,7 +11,7 @@ use lib.Seq.{get_or-append_seam, get_or-set_same, get_or-set_other, get_or-take}
 use Rattle.theory.specs.Tree.{Term}
 use Rattle.theory.specs.Table.{Table}
 use Rattle.theory.specs.Faces.{Face, meets, binds}
-use Rattle.theory.specs.Stands.{StandsAt, start_of, size_of, putNote, Gathered, Note, Noted}
+use Rattle.theory.specs.Stands.{StandsAt, start_of, size_of, put_note_lem, Gathered, Note, Noted}
 use Rattle.theory.proofs.Gathered.{Gathers}
 
 -- ---- one note, written and read
@@ -23,7 +23,7 @@ pub record SameNote (notes notes' : List ℕ) (o : ℕ) : Type 0 where
 
 module _ (notes : List ℕ) (o start size : ℕ) where
   -- LAW: the other notes stay
-  pub put_other : (k : ℕ) → (k ≡ o → ⊥) → SameNote (putNote notes o start size) notes k
+  pub put_other : (k : ℕ) → (k ≡ o → ⊥) → SameNote (put_note_lem notes o start size) notes k
   put_other k n =
       record {
         start = get_or-set_other (set notes (2 * o) start) (2 * o + 1) (2 * k) size 0 (λ e. omega arith)
@@ -34,12 +34,12 @@ module _ (notes : List ℕ) (o start size : ℕ) where
 
   module _ (l : 2 * o + 1 < length notes) where
     -- LAW: the note reads as it was written
-    pub put_start : start_of (putNote notes o start size) o ≡ start
+    pub put_start : start_of (put_note_lem notes o start size) o ≡ start
     put_start =
         get_or-set_other (set notes (2 * o) start) (2 * o + 1) (2 * o) size 0 (λ e. omega arith)
         ∙ get_or-set_same notes (2 * o) start 0 (omega arith)
 
-    pub put_size : size_of (putNote notes o start size) o ≡ size
+    pub put_size : size_of (put_note_lem notes o start size) o ≡ size
     put_size = get_or-set_same (set notes (2 * o) start) (2 * o + 1) size 0 (omega (arith, length-set notes (2 * o) start))
 
 -- ---- along both lists
@@ -65,9 +65,9 @@ module _ {ys notes : List ℕ} {done : List Face} (h : Noted ys notes done) wher
 
   -- LAW: a variable's note is written at its node
   pub noted_variable : (i start n v : ℕ) (t : Term) → length done ≡ i → 2 * i + 1 < length notes → StandsAt ys start n t
-      → Noted ys (putNote notes i start n) (done ++ (binds v t ∷ []))
+      → Noted ys (put_note_lem notes i start n) (done ++ (binds v t ∷ []))
   noted_variable i start n v t e l s =
-      more (putNote notes i start n) (binds v t)
+      more (put_note_lem notes i start n) (binds v t)
       (λ k b. put_other notes i start n k (λ q. omega arith))
       (rw (e, put_start notes i start n l, put_size notes i start n l) s)
 

@@ -9,7 +9,7 @@ use borrow.Author.Tests.{ltb-true, lt-ltb, eqb-true, eq-eqb, ne_eqb, eqb-false}
 use lib.ListN.{length, get_or}
 use Rattle.theory.specs.Least.{All}
 use Rattle.theory.specs.Table.{Lawful, OnlyItself}
-use Rattle.theory.specs.Pairs.{Pair, pair, listed, degree_in, table_of, listedTop, SoundPair}
+use Rattle.theory.specs.Pairs.{Pair, pair, listed, degree_in, table_of, listed_top, SoundPair}
 
 eqb_swap : (a b : ℕ) → eqb a b ≡ eqb b a
 eqb_swap a b = go (eqb a b) refl
@@ -49,12 +49,12 @@ and_swap false false = refl
 
 module _ (arities : List ℕ) where
   -- what is listed for a and b is sound, if it is above 0
-  listed_sound : (ps : List Pair) → All (SoundPair arities) ps → (a b : ℕ) → (listed ps a b ≤ listedTop) × (0 < listed ps a b → get_or arities a 0 ≡ get_or arities b 0)
+  listed_sound : (ps : List Pair) → All (SoundPair arities) ps → (a b : ℕ) → (listed ps a b ≤ listed_top) × (0 < listed ps a b → get_or arities a 0 ≡ get_or arities b 0)
   listed_sound [] s a b = (omega arith, λ h. absurd (omega arith))
   listed_sound (pair l h d ∷ ps) s a b = go (eqb a l) refl (eqb b h) refl (eqb a h) refl (eqb b l) refl (listed_sound ps s.1 a b)
     where
       R : ℕ → Type 0
-      R n = (n ≤ listedTop) × (0 < n → get_or arities a 0 ≡ get_or arities b 0)
+      R n = (n ≤ listed_top) × (0 < n → get_or arities a 0 ≡ get_or arities b 0)
 
       straight : eqb a l ≡ true → eqb b h ≡ true → R d
       straight e f = (s.0.4, λ q. ap (λ x. get_or arities x 0) (eqb-true a l e) ∙ s.0.2 ∙ ap (λ x. get_or arities x 0) (inv (eqb-true b h f)))

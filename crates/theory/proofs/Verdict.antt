@@ -15,7 +15,7 @@ use Rattle.theory.specs.Faces.{faces, facing}
 use Rattle.theory.specs.Match.{clash, formed, highest_at, lowest_of_lem, highest_of, Matches}
 use Rattle.theory.specs.Read.{Fine, Fines}
 use Rattle.theory.specs.Verdict.{settled, lacking, verdict, HasForm, NoMatcher, MeansFormless, MeansMatch, Means}
-use Rattle.theory.specs.Least.{leastBelow}
+use Rattle.theory.specs.Least.{least_below}
 use Rattle.theory.proofs.Lemmas.{and_left, and_right, least-none, LeastAt, least_just}
 use Rattle.theory.proofs.Decoding.{fine_over}
 use Rattle.theory.proofs.Matchers.{matchers, facing-over}
@@ -61,7 +61,7 @@ module _ (T : Table) (L : Lawful T) (p : Pattern) (h : Term) (op : Fine T true p
   -- THEOREM: every verdict means what it has to mean
   pub verdict_means : Means T c p h (verdict T c p h)
   unfolding verdict
-  verdict_means = go (clash T c (faces p h)) refl (leastBelow 32 (lacking T c p h)) refl
+  verdict_means = go (clash T c (faces p h)) refl (least_below 32 (lacking T c p h)) refl
     where
       over_p : Overₚ T p
       over_p = fine_over T true p op
@@ -69,7 +69,7 @@ module _ (T : Table) (L : Lawful T) (p : Pattern) (h : Term) (op : Fine T true p
       must : (σ : ℕ → Term) → Matcher T c p h σ → Matches T c p h
       must σ m = (answered T L p h over_p oh c pos cut).1 (σ, m)
 
-      go : (o : Option ℕ) → clash T c (faces p h) ≡ o → (q : Option ℕ) → leastBelow 32 (lacking T c p h) ≡ q
+      go : (o : Option ℕ) → clash T c (faces p h) ≡ o → (q : Option ℕ) → least_below 32 (lacking T c p h) ≡ q
           → Means T c p h (settled o q (lowest_of_lem T c (faces p h)) (highest_of T c (faces p h)))
       go (just i) e q f = (clash-at T c (faces p h) i e, λ σ m. some-ne-none i (inv e ∙ (must σ m).clear))
       go none e (just v) f =

@@ -41,9 +41,9 @@ abbrev pub or_else : Option ℕ → Option ℕ → Option ℕ
 or_else (just i) o = just i
 or_else none o = o
 
-abbrev pub leastBelow : ℕ → (ℕ → Bool) → Option ℕ
-leastBelow zero b = none
-leastBelow (suc n) b = or_else (leastBelow n b) (cond (b n) (just n) none)
+abbrev pub least_below : ℕ → (ℕ → Bool) → Option ℕ
+least_below zero b = none
+least_below (suc n) b = or_else (least_below n b) (cond (b n) (just n) none)
 
 -- 1 and the last number below n that passes the test, 0 if none does
 unfoldable pub last_below : ℕ → (ℕ → Bool) → ℕ

@@ -23,9 +23,9 @@ abbrev pub table_of : List ℕ → List Pair → Table
 table_of arities ps = record { size = length arities; arity = λ a. get_or arities a 0; deg = degree_in (length arities) ps }
 
 -- The highest degree that may be listed: two different symbols are never wholly the same.
-abbrev pub listedTop : ℕ
-listedTop = 999
+abbrev pub listed_top : ℕ
+listed_top = 999
 
 -- A pair that may be listed: two different symbols of the table with equal arities, and a degree from 1 to the highest that may be listed.
 abbrev pub SoundPair : List ℕ → Pair → Type 0
-SoundPair ar (pair l h d) = (l < h) × (h < length ar) × (get_or ar l 0 ≡ get_or ar h 0) × (0 < d) × (d ≤ listedTop)
+SoundPair ar (pair l h d) = (l < h) × (h < length ar) × (get_or ar l 0 ≡ get_or ar h 0) × (0 < d) × (d ≤ listed_top)

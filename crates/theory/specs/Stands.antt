@@ -17,8 +17,8 @@ abbrev pub size_of : List ℕ → ℕ → ℕ
 size_of notes o = get_or notes (2 * o + 1) 0
 
 -- The list with its note o written anew.
-abbrev pub putNote : List ℕ → ℕ → ℕ → ℕ → List ℕ
-putNote notes o start size = set (set notes (2 * o) start) (2 * o + 1) size
+abbrev pub put_note_lem : List ℕ → ℕ → ℕ → ℕ → List ℕ
+put_note_lem notes o start size = set (set notes (2 * o) start) (2 * o + 1) size
 
 -- These n terms stand in the list, each where its note says.
 pub record Gathered (list notes : List ℕ) (n : ℕ) (ts : List Term) : Type 0 where

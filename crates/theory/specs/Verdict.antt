@@ -3,7 +3,7 @@ use Rattle.std.specs.Prelude.{◌≡◌, ◌↔◌, Bool, true, ◌&&◌, not, �
 use Rattle.std.proofs.Math.Option.{Option, none, some as just}
 use Rattle.theory.specs.Tree.{Term, Pattern, stands}
 use Rattle.theory.specs.Table.{Table, Over, Matcher}
-use Rattle.theory.specs.Least.{leastBelow}
+use Rattle.theory.specs.Least.{least_below}
 use Rattle.theory.specs.Faces.{faces, facing}
 use Rattle.theory.specs.Match.{clash, formed, lowest_of_lem, highest_of, ClashAt, Reaches, DrawnAll, IsLowest, IsHighest}
 
@@ -25,7 +25,7 @@ module _ (T : Table) (c : ℕ) (p : Pattern) (h : Term) where
   lacking v = stands v p && not (formed T c (facing v (faces p h)))
 
   unfoldable pub verdict : Verdict
-  verdict = settled (clash T c (faces p h)) (leastBelow 32 lacking) (lowest_of_lem T c (faces p h)) (highest_of T c (faces p h))
+  verdict = settled (clash T c (faces p h)) (least_below 32 lacking) (lowest_of_lem T c (faces p h)) (highest_of T c (faces p h))
 
   -- some ground term over the table reaches the cut with every subterm that faces v
   abbrev pub HasForm : ℕ → Type 0

@@ -17,7 +17,7 @@ use Rattle.theory.specs.Least.{every, some}
 use Rattle.theory.specs.Match.{positions, in_set, lowest_at_lem, highest_at}
 use Rattle.theory.specs.Stands.{size_of, Gathered}
 use Rattle.theory.proofs.Lemmas.{some_of}
-use Rattle.meaning.specs.Limits.{setWords}
+use Rattle.meaning.specs.Limits.{set_words_lem}
 use Rattle.meaning.specs.Packing.{through, words, all_words_lem}
 use Rattle.meaning.specs.Buffers.{member}
 use Rattle.meaning.specs.Over.{over}
@@ -63,26 +63,26 @@ module _ (T : Table) (cut : ℕ) (ts : List Term) (before : List ℕ) where
 
   -- LAW: one position more, whose set has these words
   pub packed_next : (k : ℕ) (ws : List ℕ) (empty : Bool) {mid after : List ℕ} {form form' : Bool} {low low' high high' : ℕ}
-      → PackedTo T cut ts k before mid form low high → setWords * k ≤ length before
-      → Words setWords ws → ((s : ℕ) → member ws s ≡ in_set T cut ts k s)
-      → after ≡ over mid (setWords * k) ws
+      → PackedTo T cut ts k before mid form low high → set_words_lem * k ≤ length before
+      → Words set_words_lem ws → ((s : ℕ) → member ws s ≡ in_set T cut ts k s)
+      → after ≡ over mid (set_words_lem * k) ws
       → (empty ≡ true) ↔ ((s : ℕ) → member ws s ≡ false) → form' ≡ cond empty false form
       → low' ≡ min low (lowest_at_lem T cut ts k) → high' ≡ min high (highest_at T cut ts k)
       → PackedTo T cut ts (k + 1) before after form' low' high'
   packed_next k ws empty {mid = mid} {form = form} h room w is laid tells f l m =
       record {
-        words = over_next before 0 (all_words_lem (through k one)) (setWords * k) ws h.words (laid ∙ ap (λ n. over mid n ws) (inv (zero-add (setWords * k)))) long (omega arith)
+        words = over_next before 0 (all_words_lem (through k one)) (set_words_lem * k) ws h.words (laid ∙ ap (λ n. over mid n ws) (inv (zero-add (set_words_lem * k)))) long (omega arith)
             ∙ ap (over before 0) behind;
         forms = f ∙ unless empty form ∙ ap₂ ◌&&◌ (inv symbol) h.forms ∙ inv (ap (λ n. every n (λ k. some T.size (in_set T cut ts k))) (add-one k));
         at-worst = l ∙ ap (λ n. min n (lowest_at_lem T cut ts k)) h.at-worst ∙ inv (lowest_last k (lowest_at_lem T cut ts));
         at_best = m ∙ ap (λ n. min n (highest_at T cut ts k)) h.at_best ∙ inv (lowest_last k (highest_at T cut ts));
       }
     where
-      long : length (all_words_lem (through k one)) ≡ setWords * k
+      long : length (all_words_lem (through k one)) ≡ set_words_lem * k
       long = omega (arith, length-words (through k one), length-through one 1 (λ k. refl) (λ s. false) k)
 
       image : ws ≡ words (in_set T cut ts k)
-      image = image_of setWords ws w (in_set T cut ts k) (λ s l. is s)
+      image = image_of set_words_lem ws w (in_set T cut ts k) (λ s l. is s)
 
       behind : all_words_lem (through k one) ++ ws ≡ all_words_lem (through (k + 1) one)
       behind = ap (λ ws. all_words_lem (through k one) ++ ws) image ∙ inv (ap all_words_lem (through_last k one) ∙ words_last (through k one) (in_set T cut ts k))

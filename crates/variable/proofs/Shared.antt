@@ -10,18 +10,18 @@ use Rattle.theory.specs.Tree.{Term}
 use Rattle.theory.specs.Table.{Table}
 use Rattle.theory.specs.Match.{in_set, lowest_at_lem, highest_at}
 use Rattle.theory.specs.Stands.{start_of, size_of, Gathered}
-use Rattle.meaning.specs.Limits.{setRoom}
-use Rattle.meaning.specs.File.{tableIn}
+use Rattle.meaning.specs.Limits.{set_room}
+use Rattle.meaning.specs.File.{table_in}
 use Rattle.meaning.specs.Buffers.{member}
 use Rattle.wide.specs.declared.Degrees.{Degrees}
-use Rattle.positions.specs.Position.{noteCount, KeptOf, NearOf, NearTo, StandAt, SharedBy}
+use Rattle.positions.specs.Position.{note_count, KeptOf, NearOf, NearTo, StandAt, SharedBy}
 use Rattle.positions.specs.Looked.{LookedAt, DegreesAt}
 use Rattle.positions.specs.declared.faced.Faced.{Faced}
 use Rattle.positions.specs.declared.shared.Shared.{Shared}
 use Rattle.positions.proofs.Standing.{stand_symbols, set-shared, lowest-shared, highest-shared, set-none, lowest-none, highest-none}
 use Rattle.variable.specs.Variable.{OwnNotes}
 
-module _ {table near heading notes : List ℕ} (own : OwnNotes table near heading notes) {k : ℕ} {faced : List ℕ} (stand : StandAt heading notes k (noteCount notes) faced) where
+module _ {table near heading notes : List ℕ} (own : OwnNotes table near heading notes) {k : ℕ} {faced : List ℕ} (stand : StandAt heading notes k (note_count notes) faced) where
   -- a symbol that stands there has its place in the heading
   place : (h : ℕ) → member faced h ≡ true → (i : ℕ) × (i < length heading) × (get_or heading i 0 ≡ h)
   place h e =
@@ -29,7 +29,7 @@ module _ {table near heading notes : List ℕ} (own : OwnNotes table near headin
       (start_of notes o.0 + k, omega (arith, stand.reach o.0 o.1, own.within o.0 o.1), o.2)
 
   -- LAW: the near sets of what stands there are gathered
-  pub stand_kept : {symbols : ℕ} → symbols ≡ (tableIn table).size → symbols ≤ setRoom → KeptOf near symbols faced
+  pub stand_kept : {symbols : ℕ} → symbols ≡ (table_in table).size → symbols ≤ set_room → KeptOf near symbols faced
   stand_kept size few =
       record {
         few = few;
@@ -58,7 +58,7 @@ degrees_fall faced {before = before} {r} d = go faced.everywhere refl
     go false e = (omega (arith, (d.short e).0), omega (arith, (d.short e).1))
 
 module _ {T : Table} {cut : ℕ} {table near heading notes : List ℕ} (own : OwnNotes table near heading notes) (known : NearOf T cut near heading)
-    {ts : List Term} (g : Gathered heading notes (noteCount notes) ts) (k : ℕ) where
+    {ts : List Term} (g : Gathered heading notes (note_count notes) ts) (k : ℕ) where
   -- The set of the position, and its degrees with those before.
   pub record Position (set : List ℕ) (before r : Degrees) : Type 0 where
     pub set_is : (s : ℕ) → member set s ≡ in_set T cut ts k s

@@ -5,10 +5,10 @@ use Rattle.theory.specs.Table.{Table}
 use Rattle.theory.specs.Least.{every, some, lowest}
 use Rattle.theory.specs.Match.{positions, in_set, lowest_at_lem, highest_at}
 use Rattle.theory.specs.Stands.{Gathered}
-use Rattle.meaning.specs.File.{tableIn}
+use Rattle.meaning.specs.File.{table_in}
 use Rattle.meaning.specs.Packing.{through, all_words_lem}
 use Rattle.meaning.specs.Over.{over}
-use Rattle.positions.specs.Position.{noteCount, Within, Covers, NearOf}
+use Rattle.positions.specs.Position.{note_count, Within, Covers, NearOf}
 use Rattle.variable.specs.declared.Found.{Found}
 
 -- The first n positions of a variable that the terms ts face are packed at the front of the buffer `before`: their sets, whether none of these
@@ -26,7 +26,7 @@ PackedOf T near heading ts before after r =
 
 -- .. of whatever terms stand where the notes say
 abbrev pub VariablePacked : Table → List ℕ → List ℕ → List ℕ → List ℕ → List ℕ → Found → Type 0
-VariablePacked T near heading notes before after r = (ts : List Term) → Gathered heading notes (noteCount notes) ts → PackedOf T near heading ts before after r
+VariablePacked T near heading notes before after r = (ts : List Term) → Gathered heading notes (note_count notes) ts → PackedOf T near heading ts before after r
 
 -- .. of the one term that the nodes write
 abbrev pub PackedAlone : List ℕ → List ℕ → List ℕ → List ℕ → Found → Type 0
@@ -35,7 +35,7 @@ PackedAlone near nodes before after r = (T : Table) (t : Term) → nodes ≡ enc
 -- A variable's notes are of some subterms inside the heading, whose symbols are those of the table and have their near sets.
 pub record OwnNotes (table near heading notes : List ℕ) : Type 0 where
   pub covers : Covers heading near
-  pub symbols : (i : ℕ) → i < length heading → get_or heading i 0 < (tableIn table).size
+  pub symbols : (i : ℕ) → i < length heading → get_or heading i 0 < (table_in table).size
   pub few : length heading ≤ 1024
   pub within : Within heading notes
-  pub some : 0 < noteCount notes
+  pub some : 0 < note_count notes

@@ -1,13 +1,11 @@
 // All positions of one variable.
-#![tactic(auto)]
-
 ghost use Rattle.std.specs.Prelude.{ℕ, ◌*◌, ◌<◌, ◌≤◌, length, get_or};
 ghost use Rattle.theory.specs.Stands.{size_of};
-ghost use Rattle.meaning.specs.Limits.{setWords};
-ghost use Rattle.meaning.specs.File.{tableIn};
+ghost use Rattle.meaning.specs.Limits.{set_words_lem};
+ghost use Rattle.meaning.specs.File.{table_in};
 ghost use Rattle.meaning.specs.Refusals.{SoundFile};
 ghost use Rattle.wide.specs.Index.{Index};
-ghost use Rattle.positions.specs.Position.{noteCount, Within, Covers};
+ghost use Rattle.positions.specs.Position.{note_count, Within, Covers};
 ghost use Rattle.variable.specs.Variable.{PackedAlone, OwnNotes, VariablePacked};
 
 use degrees::lesser;
@@ -32,7 +30,7 @@ pub struct Found {
 
 // Packs the sets of a variable that one term faces: at each position the near set of the symbol there, in which the symbol itself is.
 fn pack_alone(near: &[u64], term: &[u16], sets: &mut [u64]) -> Found
-    requires { Covers term.now near.now × (setWords * length term.now ≤ length sets.old) }
+    requires { Covers term.now near.now × (set_words_lem * length term.now ≤ length sets.old) }
     ensures { PackedAlone near.now term.now sets.old sets.new result }
 {
     let mut lowest: u16 = 1000;
@@ -58,9 +56,9 @@ fn pack_shared(
     sets: &mut [u64],
 ) -> Found
     requires sound_file { SoundFile table.now × Index table.now index.old × OwnNotes table.now near.now heading.now notes.now }
-    requires notes_in_bounds { setWords * size_of notes.now 0 ≤ length sets.old }
+    requires notes_in_bounds { set_words_lem * size_of notes.now 0 ≤ length sets.old }
     ensures index { Index table.now index.new }
-    ensures variable_packed { VariablePacked (tableIn table.now) near.now heading.now notes.now sets.old sets.new result }
+    ensures variable_packed { VariablePacked (table_in table.now) near.now heading.now notes.now sets.old sets.new result }
 {
     let counts = counts_of(table);
     // the first subterm has as many nodes as the variable has positions
@@ -100,9 +98,9 @@ pub fn pack_variable(
     sets: &mut [u64],
 ) -> Found
     requires sound_file { SoundFile table.now × Index table.now index.old × OwnNotes table.now near.now heading.now notes.now }
-    requires notes_in_bounds { setWords * size_of notes.now 0 ≤ length sets.old }
+    requires notes_in_bounds { set_words_lem * size_of notes.now 0 ≤ length sets.old }
     ensures index { Index table.now index.new }
-    ensures variable_packed { VariablePacked (tableIn table.now) near.now heading.now notes.now sets.old sets.new result }
+    ensures variable_packed { VariablePacked (table_in table.now) near.now heading.now notes.now sets.old sets.new result }
 {
     if notes.len() / 2 == 1 {
         let note = note_at(notes, 0);

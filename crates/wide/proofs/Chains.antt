@@ -11,7 +11,7 @@ use lib.Dec.{eqb}
 use lib.ListN.{length, get_or, set, length-set, length-replicate}
 use lib.Seq.{get_or-set_same, get_or-set_other}
 use Rattle.theory.specs.Least.{last_below}
-use Rattle.meaning.specs.File.{pairCount, tableIn}
+use Rattle.meaning.specs.File.{pair_count_lem, table_in}
 use Rattle.meaning.specs.Tables.{lower_at, higher_at}
 use Rattle.meaning.specs.Refusals.{SoundFile}
 use Rattle.meaning.specs.Calls.{zeros}
@@ -20,14 +20,14 @@ use Rattle.meaning.proofs.First.{last_here, last_before}
 use Rattle.degrees.specs.Rows.{Rows, RowsLaid}
 use Rattle.degrees.proofs.Listed.{pair_symbols}
 use Rattle.degrees.proofs.Narrowing.{rows_anywhere}
-use Rattle.wide.specs.Index.{last_with, keptRows, linked_at, heads_at, links_at, tagsAt, indexRoom, Linked, Index, Chained}
+use Rattle.wide.specs.Index.{last_with, kept_rows, linked_at, heads_at, links_at, tags_at, index_room, Linked, Index, Chained}
 use Rattle.wide.specs.Laid.{Cleared}
 
 -- ---- an index that changes
 
 module _ (file : List ℕ) (ok : SoundFile file) (before after : List ℕ) where
   -- LAW: rows stay where the front of the list does
-  pub rows_kept : length after ≡ length before → ((i : ℕ) → i < 2 * (tableIn file).size → get_or after i 0 ≡ get_or before i 0) → Rows file before → Rows file after
+  pub rows_kept : length after ≡ length before → ((i : ℕ) → i < 2 * (table_in file).size → get_or after i 0 ≡ get_or before i 0) → Rows file before → Rows file after
   rows_kept e same rows =
       record {
         room = omega (arith, rows.room);
@@ -36,11 +36,11 @@ module _ (file : List ℕ) (ok : SoundFile file) (before after : List ℕ) where
         within = λ s l. omega (arith, same (2 * s + 1) (omega arith), rows.within s l);
       }
     where
-      symbol : (k : ℕ) → k < pairCount file → lower_at file k < (tableIn file).size
+      symbol : (k : ℕ) → k < pair_count_lem file → lower_at file k < (table_in file).size
       symbol k l = (pair_symbols file ok k l).0
 
   -- LAW: .. and chains where what stands from the mark to the tags does
-  pub linked_kept : ((i : ℕ) → heads_at file ≤ i → i < tagsAt file → get_or after i 0 ≡ get_or before i 0) → Linked file (pairCount file) before → Linked file (pairCount file) after
+  pub linked_kept : ((i : ℕ) → heads_at file ≤ i → i < tags_at file → get_or after i 0 ≡ get_or before i 0) → Linked file (pair_count_lem file) before → Linked file (pair_count_lem file) after
   linked_kept same linked =
       record {
         heads = λ h l. same (heads_at file + h) (omega arith) (omega arith) ∙ linked.heads h l;
@@ -49,8 +49,8 @@ module _ (file : List ℕ) (ok : SoundFile file) (before after : List ℕ) where
 
 -- ---- one pair more
 
-module _ (file : List ℕ) (ok : SoundFile file) (k head link : ℕ) (l : k < pairCount file) (head_is : head ≡ heads_at file + higher_at file k) (link_is : link ≡ links_at file + k)
-    (index : List ℕ) (room : indexRoom file ≤ length index) where
+module _ (file : List ℕ) (ok : SoundFile file) (k head link : ℕ) (l : k < pair_count_lem file) (head_is : head ≡ heads_at file + higher_at file k) (link_is : link ≡ links_at file + k)
+    (index : List ℕ) (room : index_room file ≤ length index) where
   -- the list with the pair linked, and then at the head of its chain
   abbrev linked_on : List ℕ
   linked_on = set index link (get_or index head 0)
@@ -58,7 +58,7 @@ module _ (file : List ℕ) (ok : SoundFile file) (k head link : ℕ) (l : k < pa
   abbrev chained : List ℕ
   chained = set linked_on head (k + 1)
 
-  symbol : higher_at file k < (tableIn file).size
+  symbol : higher_at file k < (table_in file).size
   symbol = (pair_symbols file ok k l).1
 
   -- what is neither link nor head stays
@@ -73,7 +73,7 @@ module _ (file : List ℕ) (ok : SoundFile file) (k head link : ℕ) (l : k < pa
         links = below_more _ k (λ j m. elsewhere (links_at file + j) (λ e. omega arith) (λ e. omega (arith, symbol)) ∙ linked.links j m) at_link;
       }
     where
-      at_head : (h : ℕ) → h < (tableIn file).size → Dec (higher_at file k ≡ h) → get_or chained (heads_at file + h) 0 ≡ last_with file h (k + 1)
+      at_head : (h : ℕ) → h < (table_in file).size → Dec (higher_at file k ≡ h) → get_or chained (heads_at file + h) 0 ≡ last_with file h (k + 1)
       at_head h m (yes e) =
           let here : heads_at file + h ≡ head = omega arith in
           ap (λ (i : ℕ). get_or chained i 0) here
@@ -95,7 +95,7 @@ module _ (file : List ℕ) (ok : SoundFile file) (k head link : ℕ) (l : k < pa
 
 -- ---- nothing laid out yet
 
-module _ (file : List ℕ) (ok : SoundFile file) (index : List ℕ) (room : indexRoom file ≤ length index) where
+module _ (file : List ℕ) (ok : SoundFile file) (index : List ℕ) (room : index_room file ≤ length index) where
   -- LAW: zeros, which say of each row that it may stand anywhere, and no mark
   pub opened : ((i : ℕ) → i ≤ linked_at file → get_or index i 0 ≡ 0) → Index file index
   opened cleared =
@@ -114,18 +114,18 @@ module _ (file : List ℕ) (ok : SoundFile file) (index : List ℕ) (room : inde
 
 -- ---- the mark
 
-module _ (file : List ℕ) (ok : SoundFile file) (mark tags : ℕ) (mark_is : mark ≡ linked_at file) (tags_are : tags ≡ tagsAt file) (laid index : List ℕ)
-    (long : length index ≡ length laid) (room : indexRoom file ≤ length index) (cleared : Cleared tags (tags + keptRows) laid index) where
+module _ (file : List ℕ) (ok : SoundFile file) (mark tags : ℕ) (mark_is : mark ≡ linked_at file) (tags_are : tags ≡ tags_at file) (laid index : List ℕ)
+    (long : length index ≡ length laid) (room : index_room file ≤ length index) (cleared : Cleared tags (tags + kept_rows) laid index) where
   -- what stands before the tags and is not the mark
-  before_tags : (i : ℕ) → i < tagsAt file → (i ≡ mark → ⊥) → get_or (set index mark 1) i 0 ≡ get_or laid i 0
+  before_tags : (i : ℕ) → i < tags_at file → (i ≡ mark → ⊥) → get_or (set index mark 1) i 0 ≡ get_or laid i 0
   before_tags i l n = get_or-set_other index mark i 1 0 n ∙ cleared.same i (omega arith)
 
   -- the tags
-  no_tag : (slot : ℕ) → slot < keptRows → get_or (set index mark 1) (tagsAt file + slot) 0 ≡ 0
-  no_tag slot l = get_or-set_other index mark (tagsAt file + slot) 1 0 (λ e. omega arith) ∙ cleared.zero (tagsAt file + slot) (omega arith) (omega arith)
+  no_tag : (slot : ℕ) → slot < kept_rows → get_or (set index mark 1) (tags_at file + slot) 0 ≡ 0
+  no_tag slot l = get_or-set_other index mark (tags_at file + slot) 1 0 (λ e. omega arith) ∙ cleared.zero (tags_at file + slot) (omega arith) (omega arith)
 
   -- LAW: rows and chains are laid out, the tags are cleared, so that they tell no symbol, and the mark is set
-  pub marked : Rows file laid → Linked file (pairCount file) laid → Chained file (set index mark 1)
+  pub marked : Rows file laid → Linked file (pair_count_lem file) laid → Chained file (set index mark 1)
   marked rows linked = (
     record {
       room = rw (length-set index mark 1) room;

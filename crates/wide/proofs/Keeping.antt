@@ -9,9 +9,9 @@ use native.Mathlib.Omega.{arith}
 use borrow.Author.Tests.{lt-leb}
 use lib.ListN.{length, get_or, set, length-set}
 use lib.Seq.{get_or-set_same, get_or-set_other}
-use Rattle.meaning.specs.File.{tableIn}
+use Rattle.meaning.specs.File.{table_in}
 use Rattle.meaning.specs.Refusals.{SoundFile}
-use Rattle.wide.specs.Index.{keptRows, smallTable, tagsAt, row_at, indexRoom, Index, Chained, DegreesFrom, Kept}
+use Rattle.wide.specs.Index.{kept_rows, small_table, tags_at, row_at, index_room, Index, Chained, DegreesFrom, Kept}
 use Rattle.wide.specs.Laid.{Copied, DegreesOf}
 use Rattle.wide.proofs.Chains.{rows_kept, linked_kept}
 
@@ -22,14 +22,14 @@ pub places_apart : (size slot later : ℕ) → slot < later → slot * size + si
 places_apart size slot later l = omega (arith, suc-mul slot size, mul-le-mul_right size l)
 
 -- LAW: and all are within the list
-pub place_within : (file index : List ℕ) → smallTable < (tableIn file).size → indexRoom file ≤ length index → (slot : ℕ) → slot < keptRows
-    → row_at file slot + (tableIn file).size ≤ length index
-place_within file index big room slot l = omega (arith, rw (lt-leb (tableIn file).size smallTable big) at room, places_apart (tableIn file).size slot keptRows l)
+pub place_within : (file index : List ℕ) → small_table < (table_in file).size → index_room file ≤ length index → (slot : ℕ) → slot < kept_rows
+    → row_at file slot + (table_in file).size ≤ length index
+place_within file index big room slot l = omega (arith, rw (lt-leb (table_in file).size small_table big) at room, places_apart (table_in file).size slot kept_rows l)
 
 -- ---- one symbol more
 
-module _ (file : List ℕ) (ok : SoundFile file) (a tag from : ℕ) (tag_is : tag ≡ tagsAt file + a % keptRows) (from_is : from ≡ row_at file (a % keptRows))
-    (row index copied : List ℕ) (degrees : DegreesOf file a row) (copy : Copied from (tableIn file).size row index copied) (inside : tag < length copied) where
+module _ (file : List ℕ) (ok : SoundFile file) (a tag from : ℕ) (tag_is : tag ≡ tags_at file + a % kept_rows) (from_is : from ≡ row_at file (a % kept_rows))
+    (row index copied : List ℕ) (degrees : DegreesOf file a row) (copy : Copied from (table_in file).size row index copied) (inside : tag < length copied) where
   -- the list with the symbol's tag
   abbrev tagged : List ℕ
   tagged = set copied tag (a + 1)
@@ -43,25 +43,25 @@ module _ (file : List ℕ) (ok : SoundFile file) (a tag from : ℕ) (tag_is : ta
   before_place i l n = get_or-set_other copied tag i (a + 1) 0 n ∙ copy.same-before i l
 
   -- .. and behind it
-  behind_place : (i : ℕ) → from + (tableIn file).size ≤ i → get_or tagged i 0 ≡ get_or index i 0
+  behind_place : (i : ℕ) → from + (table_in file).size ≤ i → get_or tagged i 0 ≡ get_or index i 0
   behind_place i l = get_or-set_other copied tag i (a + 1) 0 (λ e. omega arith) ∙ copy.same_behind i l
 
   -- LAW
   pub kept_more : Kept file index → Kept file tagged
-  kept_more kept slot b l tells = go (ℕ_discrete slot (a % keptRows))
+  kept_more kept slot b l tells = go (ℕ_discrete slot (a % kept_rows))
     where
-      other : (slot ≡ a % keptRows → ⊥) → Dec (slot < a % keptRows) → (s : ℕ) → s < (tableIn file).size → get_or tagged (row_at file slot + s) 0 ≡ get_or index (row_at file slot + s) 0
-      other n (yes v) s u = before_place (row_at file slot + s) (omega (arith, places_apart (tableIn file).size slot (a % keptRows) v)) (λ e. omega arith)
-      other n (no v) s u = let later : a % keptRows < slot = omega arith in behind_place (row_at file slot + s) (omega (arith, places_apart (tableIn file).size (a % keptRows) slot later))
+      other : (slot ≡ a % kept_rows → ⊥) → Dec (slot < a % kept_rows) → (s : ℕ) → s < (table_in file).size → get_or tagged (row_at file slot + s) 0 ≡ get_or index (row_at file slot + s) 0
+      other n (yes v) s u = before_place (row_at file slot + s) (omega (arith, places_apart (table_in file).size slot (a % kept_rows) v)) (λ e. omega arith)
+      other n (no v) s u = let later : a % kept_rows < slot = omega arith in behind_place (row_at file slot + s) (omega (arith, places_apart (table_in file).size (a % kept_rows) slot later))
 
-      go : Dec (slot ≡ a % keptRows) → DegreesFrom file b (row_at file slot) tagged
+      go : Dec (slot ≡ a % kept_rows) → DegreesFrom file b (row_at file slot) tagged
       go (yes e) s u =
-          let here : tagsAt file + slot ≡ tag = omega arith in
+          let here : tags_at file + slot ≡ tag = omega arith in
           let own = ap (λ (i : ℕ). get_or tagged i 0) here ∙ get_or-set_same copied tag (a + 1) 0 inside in
           let same : a ≡ b = omega (arith, own, tells) in
-          ap (λ (i : ℕ). get_or tagged (i + s) 0) (ap (row_at file) e ∙ inv from_is) ∙ degrees_there s u ∙ ap ((tableIn file).deg s) same
+          ap (λ (i : ℕ). get_or tagged (i + s) 0) (ap (row_at file) e ∙ inv from_is) ∙ degrees_there s u ∙ ap ((table_in file).deg s) same
       go (no n) s u =
-          other n (dec_lt slot (a % keptRows)) s u ∙ kept slot b l (inv (before_place (tagsAt file + slot) (omega arith) (λ e. n (omega arith))) ∙ tells) s u
+          other n (dec_lt slot (a % kept_rows)) s u ∙ kept slot b l (inv (before_place (tags_at file + slot) (omega arith) (λ e. n (omega arith))) ∙ tells) s u
 
   -- LAW
   pub chained_more : length copied ≡ length index → Chained file index → Chained file tagged

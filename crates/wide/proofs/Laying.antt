@@ -9,11 +9,11 @@ use native.Mathlib.Omega.{arith}
 use lib.ListN.{length, get_or, set, length-set}
 use lib.Seq.{get_or-set_same, get_or-set_other}
 use Rattle.theory.specs.Table.{Table}
-use Rattle.meaning.specs.File.{pairCount, tableIn}
+use Rattle.meaning.specs.File.{pair_count_lem, table_in}
 use Rattle.meaning.specs.Tables.{lower_at, higher_at, degree_at}
 use Rattle.meaning.specs.Refusals.{SoundFile}
 use Rattle.meaning.proofs.Sound.{sound}
-use Rattle.meaning.proofs.Bytes.{pair_in}
+use Rattle.meaning.proofs.Bytes.{pair_in_lem}
 use Rattle.meaning.proofs.Degrees.{degree_listed}
 use Rattle.meaning.proofs.Recognised.{recognised}
 use Rattle.table.proofs.Reading.{size_is}
@@ -22,10 +22,10 @@ use Rattle.wide.specs.Laid.{Joins, Laid, InRow}
 
 module _ (file : List ℕ) (ok : SoundFile file) (a : ℕ) where
   abbrev T : Table
-  T = tableIn file
+  T = table_in file
 
   -- a pair of a has one other symbol
-  one_other : (k s t : ℕ) → k < pairCount file → Joins file a s k → Joins file a t k → s ≡ t
+  one_other : (k s t : ℕ) → k < pair_count_lem file → Joins file a s k → Joins file a t k → s ≡ t
   one_other k s t l p q =
       let up = (((recognised file).0 ok).pairs k l).lower_first in
       ⊎_elim
@@ -34,13 +34,13 @@ module _ (file : List ℕ) (ok : SoundFile file) (a : ℕ) where
       p
 
   -- .. and they have its degree
-  joined_degree : (k s : ℕ) → k < pairCount file → Joins file a s k → degree_at file k ≡ T.deg s a
+  joined_degree : (k s : ℕ) → k < pair_count_lem file → Joins file a s k → degree_at file k ≡ T.deg s a
   joined_degree k s l p =
-      inv (degree_listed file ok k (lower_at file k) (higher_at file k) (degree_at file k) l (pair_in file k l))
+      inv (degree_listed file ok k (lower_at file k) (higher_at file k) (degree_at file k) l (pair_in_lem file k l))
       ∙ ⊎_elim (λ p. ap₂ T.deg p.0 p.1 ∙ (sound file ok).lawful.either a s) (λ p. ap₂ T.deg p.1 p.0) p
 
   -- two symbols that no pair joins
-  not_joined : (s : ℕ) → s < T.size → a < T.size → (s ≡ a → ⊥) → ((k : ℕ) → k < pairCount file → Joins file a s k → ⊥) → T.deg s a ≡ 0
+  not_joined : (s : ℕ) → s < T.size → a < T.size → (s ≡ a → ⊥) → ((k : ℕ) → k < pair_count_lem file → Joins file a s k → ⊥) → T.deg s a ≡ 0
   not_joined s l m other no_pair = go (dec_lt s a)
     where
       few : T.size ≤ 512
@@ -55,17 +55,17 @@ module _ (file : List ℕ) (ok : SoundFile file) (a : ℕ) where
 
   -- LAW: zeros, before any pair was seen
   pub laid_none : (Seen : ℕ → Type 0) (row : List ℕ) → T.size ≤ length row → ((s : ℕ) → s < T.size → get_or row s 0 ≡ 0)
-      → ((k : ℕ) → k < pairCount file → Seen k → ⊥) → Laid file a Seen row
+      → ((k : ℕ) → k < pair_count_lem file → Seen k → ⊥) → Laid file a Seen row
   laid_none Seen row room zero unseen = record { room = room; right = λ s l n. absurd (n (zero s l)); none = λ s l e k m seen p. unseen k m seen }
 
   module _ {Seen Then : ℕ → Type 0} {row : List ℕ} (laid : Laid file a Seen row) where
     -- LAW: what was seen is all that there was to be seen
-    pub laid_as : ((k : ℕ) → k < pairCount file → Then k → Seen k) → Laid file a Then row
+    pub laid_as : ((k : ℕ) → k < pair_count_lem file → Then k → Seen k) → Laid file a Then row
     laid_as seen = record { room = laid.room; right = laid.right; none = λ s l e k m then p. laid.none s l e k m (seen k m then) p }
 
     -- LAW: the degree of pair k is laid at its other symbol s
-    pub laid_more : (k s : ℕ) → k < pairCount file → s < T.size → Joins file a s k
-        → ((j : ℕ) → j < pairCount file → (j ≡ k → ⊥) → Then j → Seen j) → Laid file a Then (set row s (degree_at file k))
+    pub laid_more : (k s : ℕ) → k < pair_count_lem file → s < T.size → Joins file a s k
+        → ((j : ℕ) → j < pair_count_lem file → (j ≡ k → ⊥) → Then j → Seen j) → Laid file a Then (set row s (degree_at file k))
     laid_more k s l m p seen =
         record {
           room = rw (length-set row s (degree_at file k)) laid.room;
@@ -83,7 +83,7 @@ module _ (file : List ℕ) (ok : SoundFile file) (a : ℕ) where
         right t u n (yes e) = rw e (here ∙ joined_degree k s l p)
         right t u n (no d) = there t d ∙ laid.right t u (λ z. n (there t d ∙ z))
 
-        none : (t : ℕ) → t < T.size → get_or (set row s (degree_at file k)) t 0 ≡ 0 → (j : ℕ) → j < pairCount file → Then j → Joins file a t j → Dec (t ≡ s) → Dec (j ≡ k) → ⊥
+        none : (t : ℕ) → t < T.size → get_or (set row s (degree_at file k)) t 0 ≡ 0 → (j : ℕ) → j < pair_count_lem file → Then j → Joins file a t j → Dec (t ≡ s) → Dec (j ≡ k) → ⊥
         none t u e j v then q (yes d) f = omega (arith, rw d at e, here, (((recognised file).0 ok).pairs k l).above_zero)
         none t u e j v then q (no d) (yes f) = d (one_other k t s l (rw f at q) p)
         none t u e j v then q (no d) (no f) = laid.none t u (inv (there t d) ∙ e) j v (seen j v f then) q

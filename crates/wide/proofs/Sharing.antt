@@ -11,7 +11,7 @@ use Rattle.theory.specs.Table.{Table}
 use Rattle.theory.proofs.Lemmas.{fewest, skipped}
 use Rattle.meaning.specs.Buffers.{member}
 use Rattle.sets.specs.Words.{NoneBetween}
-use Rattle.wide.specs.Shared.{sharedBy}
+use Rattle.wide.specs.Shared.{shared_by_lem}
 
 module _ (T : Table) (faced : List ℕ) where
   -- the numbers are what the symbols share with the members below m, and none of these is past the table's symbols
@@ -40,5 +40,5 @@ module _ (T : Table) (faced : List ℕ) where
       here s u = rw (add-one m, in_set_lem) (omega (arith, lowered s u, degrees s u, shared.is s u))
 
   -- LAW: behind the last member of the table's symbols
-  pub shared_end : (m : ℕ) (least : List ℕ) → T.size ≤ m → SharedTo m least → (s : ℕ) → s < T.size → get_or least s 0 ≡ sharedBy T faced s
+  pub shared_end : (m : ℕ) (least : List ℕ) → T.size ≤ m → SharedTo m least → (s : ℕ) → s < T.size → get_or least s 0 ≡ shared_by_lem T faced s
   shared_end m least past shared s l = shared.is s l ∙ (skipped (member faced) (T.deg s) T.size m past shared.none_past).0

@@ -9,8 +9,8 @@ use native.Mathlib.Omega.{arith}
 use borrow.Author.Tests.{eqb-true, eqb-false}
 use lib.Dec.{eqb}
 use lib.ListN.{length, get_or, set}
-use Rattle.meaning.specs.File.{number, pairCount, tableIn}
-use Rattle.meaning.specs.Tables.{pairStart, lower_at, higher_at, degree_at}
+use Rattle.meaning.specs.File.{number, pair_count_lem, table_in}
+use Rattle.meaning.specs.Tables.{pair_start, lower_at, higher_at, degree_at}
 use Rattle.meaning.specs.Refusals.{SoundFile}
 use Rattle.meaning.proofs.First.{Last, last_below_lem}
 use Rattle.degrees.specs.Rows.{Rows}
@@ -23,32 +23,32 @@ use Rattle.wide.proofs.Laying.{laid_none, laid_as, laid_more, laid_all}
 module _ (file : List ℕ) (a : ℕ) where
   -- a's row begins from pair `low` to pair `high`, if it has any
   pub record StartsBetween (low high : ℕ) : Type 0 where
-    pub within : high ≤ pairCount file
-    pub none_before : (j : ℕ) → j < pairCount file → InRow file a j → low ≤ j
-    pub none_skipped : (j : ℕ) → high ≤ j → j < pairCount file → InRow file a j → InRow file a high
+    pub within : high ≤ pair_count_lem file
+    pub none_before : (j : ℕ) → j < pair_count_lem file → InRow file a j → low ≤ j
+    pub none_skipped : (j : ℕ) → high ≤ j → j < pair_count_lem file → InRow file a j → InRow file a high
 
   -- the walk stands before pair k of the file, whose bytes begin at `at`: the pairs of a's row before it are laid out
   pub record RowTo (at : ℕ) (row : List ℕ) : Type 0 where
     pub k : ℕ
-    pub at_is : at ≡ pairStart file k
+    pub at_is : at ≡ pair_start file k
     pub laid : Laid file a (λ j. InRow file a j × (j < k)) row
-    pub none_skipped : (j : ℕ) → k ≤ j → j < pairCount file → InRow file a j → InRow file a k
+    pub none_skipped : (j : ℕ) → k ≤ j → j < pair_count_lem file → InRow file a j → InRow file a k
 
   -- the walk stands at a pair of the chain, 1 and its number being `next`, or behind the chain: the row and all later pairs of the chain are laid out
   pub record ChainFrom (next : ℕ) (row : List ℕ) : Type 0 where
-    pub within : next ≤ pairCount file
+    pub within : next ≤ pair_count_lem file
     pub is : 0 < next → higher_at file (next - 1) ≡ a
     pub laid : Laid file a (λ k. InRow file a k ⊎ ((higher_at file k ≡ a) × (next ≤ k))) row
 
 module _ (file : List ℕ) (ok : SoundFile file) (a : ℕ) where
   -- no lower symbol is below that of an earlier pair
-  rising : (i j : ℕ) → i ≤ j → j < pairCount file → lower_at file i ≤ lower_at file j
+  rising : (i j : ℕ) → i ≤ j → j < pair_count_lem file → lower_at file i ≤ lower_at file j
   rising i j = none_before file ok i (lower_at file i) i refl (omega arith) j
 
   -- ---- where the row begins
 
   -- LAW: from where to where rows say
-  pub starts_anywhere : (rows : List ℕ) → Rows file rows → StartsBetween file a (get_or rows (2 * a) 0) (pairCount file - get_or rows (2 * a + 1) 0)
+  pub starts_anywhere : (rows : List ℕ) → Rows file rows → StartsBetween file a (get_or rows (2 * a) 0) (pair_count_lem file - get_or rows (2 * a + 1) 0)
   starts_anywhere rows known =
       record {
         within = omega arith;
@@ -78,7 +78,7 @@ module _ (file : List ℕ) (ok : SoundFile file) (a : ℕ) where
       starts_behind below =
           record { within = between.within; none_before = λ j m own. past j m own (dec_lt middle j); none_skipped = between.none_skipped }
         where
-          past : (j : ℕ) → j < pairCount file → InRow file a j → Dec (middle < j) → middle + 1 ≤ j
+          past : (j : ℕ) → j < pair_count_lem file → InRow file a j → Dec (middle < j) → middle + 1 ≤ j
           past j m own (yes v) = omega arith
           past j m own (no v) = absurd (omega (arith, own, rising j middle (omega arith) (omega (arith, between.within))))
 
@@ -93,8 +93,8 @@ module _ (file : List ℕ) (ok : SoundFile file) (a : ℕ) where
   -- ---- along the row
 
   -- LAW: before its first pair
-  pub row_first : (k : ℕ) (row : List ℕ) → RowFrom file a k → (tableIn file).size ≤ length row → ((s : ℕ) → s < (tableIn file).size → get_or row s 0 ≡ 0)
-      → (at : ℕ) → at ≡ pairStart file k → RowTo file a at row
+  pub row_first : (k : ℕ) (row : List ℕ) → RowFrom file a k → (table_in file).size ≤ length row → ((s : ℕ) → s < (table_in file).size → get_or row s 0 ≡ 0)
+      → (at : ℕ) → at ≡ pair_start file k → RowTo file a at row
   row_first k row from room cleared at e =
       record {
         k = k;
@@ -105,7 +105,7 @@ module _ (file : List ℕ) (ok : SoundFile file) (a : ℕ) where
 
   module _ (at : ℕ) (row : List ℕ) (to : RowTo file a at row) where
     -- LAW: from a pair of the row to the next pair
-    pub row_next : (s d : ℕ) → at < pairStart file (pairCount file) → number file at ≡ a → s ≡ number file (at + 2) → d ≡ number file (at + 4)
+    pub row_next : (s d : ℕ) → at < pair_start file (pair_count_lem file) → number file at ≡ a → s ≡ number file (at + 2) → d ≡ number file (at + 4)
         → RowTo file a (at + 6) (set row s d)
     row_next s d before lower higher degree =
         record {
@@ -116,17 +116,17 @@ module _ (file : List ℕ) (ok : SoundFile file) (a : ℕ) where
           none_skipped = λ j m u later. omega (arith, own, rising to.k (to.k + 1) (omega arith) (omega arith), rising (to.k + 1) j m u);
         }
       where
-        l : to.k < pairCount file
+        l : to.k < pair_count_lem file
         l = omega (arith, to.at_is)
 
         own : lower_at file to.k ≡ a
         own = ap (number file) (inv to.at_is) ∙ lower
 
     -- LAW: behind the row, as pair k is not one of it, or there is none
-    pub row_end : (pairStart file (pairCount file) ≤ at) ⊎ (number file at ≡ a → ⊥) → Laid file a (InRow file a) row
+    pub row_end : (pair_start file (pair_count_lem file) ≤ at) ⊎ (number file at ≡ a → ⊥) → Laid file a (InRow file a) row
     row_end past = laid_as file ok a to.laid (λ j l own. (own, before j l own (dec_lt j to.k)))
       where
-        before : (j : ℕ) → j < pairCount file → InRow file a j → Dec (j < to.k) → j < to.k
+        before : (j : ℕ) → j < pair_count_lem file → InRow file a j → Dec (j < to.k) → j < to.k
         before j l own (yes v) = v
         before j l own (no v) =
             absurd (⊎_elim (λ e. omega (arith, to.at_is)) (λ n. n (ap (number file) to.at_is ∙ to.none_skipped j (omega arith) l own)) past)
@@ -134,7 +134,7 @@ module _ (file : List ℕ) (ok : SoundFile file) (a : ℕ) where
   -- ---- along the chain
 
   -- LAW: at the head
-  pub chain_head : (next : ℕ) (row : List ℕ) → next ≡ last_with file a (pairCount file) → Laid file a (InRow file a) row → ChainFrom file a next row
+  pub chain_head : (next : ℕ) (row : List ℕ) → next ≡ last_with file a (pair_count_lem file) → Laid file a (InRow file a) row → ChainFrom file a next row
   chain_head next row e laid =
       record {
         within = last.within;
@@ -142,8 +142,8 @@ module _ (file : List ℕ) (ok : SoundFile file) (a : ℕ) where
         laid = laid_as file ok a laid (λ k l. ⊎_elim (λ own. own) (λ later. absurd (eqb-false _ _ (last.none k later.1 l) later.0)));
       }
     where
-      last : Last (λ k. eqb (higher_at file k) a) (pairCount file) next
-      last = rw e (last_below_lem (λ k. eqb (higher_at file k) a) (pairCount file))
+      last : Last (λ k. eqb (higher_at file k) a) (pair_count_lem file) next
+      last = rw e (last_below_lem (λ k. eqb (higher_at file k) a) (pair_count_lem file))
 
   -- LAW: from a pair to the one before it
   pub chain_next : (next before : ℕ) (row : List ℕ) → 0 < next → before ≡ last_with file (higher_at file (next - 1)) (next - 1) → ChainFrom file a next row
@@ -158,7 +158,7 @@ module _ (file : List ℕ) (ok : SoundFile file) (a : ℕ) where
       k : ℕ
       k = next - 1
 
-      l : k < pairCount file
+      l : k < pair_count_lem file
       l = omega (arith, at.within)
 
       last : Last (λ j. eqb (higher_at file j) a) k before
@@ -169,5 +169,5 @@ module _ (file : List ℕ) (ok : SoundFile file) (a : ℕ) where
       behind j n later (no v) = omega arith
 
   -- LAW: behind its last pair all is laid out
-  pub chain_end : (row : List ℕ) → a < (tableIn file).size → ChainFrom file a 0 row → (s : ℕ) → s < (tableIn file).size → (s ≡ a → ⊥) → get_or row s 0 ≡ (tableIn file).deg s a
+  pub chain_end : (row : List ℕ) → a < (table_in file).size → ChainFrom file a 0 row → (s : ℕ) → s < (table_in file).size → (s ≡ a → ⊥) → get_or row s 0 ≡ (table_in file).deg s a
   chain_end row m at = laid_all file ok a row m (laid_as file ok a at.laid (λ k l. ⊎_elim inl (λ later. inr (later, omega arith))))

@@ -1,9 +1,9 @@
 // The degrees of symbols that were asked for last, kept in the index: a position faces much the same symbols as the one before it. Each symbol has one
 // place, which it shares with others, and a tag tells whose degrees are there.
 ghost use Rattle.std.specs.Prelude.{◌≡◌, ◌+◌, ◌%◌, ◌<◌, ◌≤◌, length};
-ghost use Rattle.meaning.specs.File.{tableIn};
+ghost use Rattle.meaning.specs.File.{table_in};
 ghost use Rattle.table.specs.Read.{Counted};
-ghost use Rattle.wide.specs.Index.{keptRows, smallTable, tagsAt, row_at, Chained, DegreesFrom};
+ghost use Rattle.wide.specs.Index.{kept_rows, small_table, tags_at, row_at, Chained, DegreesFrom};
 ghost use Rattle.wide.specs.Laid.{Copied};
 
 use crate::row::lay_degrees;
@@ -22,8 +22,8 @@ fn copy_row(list: &mut [u16], from: usize, row: &[u16], symbols: usize)
 
 // Lays the degrees of symbol `a` out at its place, where those of another are lost, and then sets the tag.
 fn keep_row(file: &[u8], counts: Counts, index: &mut [u16], a: u16, tag: usize, from: usize)
-    requires counted { Counted file.now counts × Chained file.now index.old × (smallTable < (tableIn file.now).size) × (a < (tableIn file.now).size) }
-    requires tag_value { (tag ≡ tagsAt file.now + a % keptRows) × (from ≡ row_at file.now (a % keptRows)) }
+    requires counted { Counted file.now counts × Chained file.now index.old × (small_table < (table_in file.now).size) × (a < (table_in file.now).size) }
+    requires tag_value { (tag ≡ tags_at file.now + a % kept_rows) × (from ≡ row_at file.now (a % kept_rows)) }
     ensures { Chained file.now index.new × DegreesFrom file.now a from index.new }
 {
     let mut row = [0u16; ROOM];
@@ -34,8 +34,8 @@ fn keep_row(file: &[u8], counts: Counts, index: &mut [u16], a: u16, tag: usize, 
 
 // Where in the index the degrees of symbol `a` begin. They are laid out if they are not kept.
 pub fn kept_row(file: &[u8], counts: Counts, index: &mut [u16], a: u16) -> usize
-    requires { Counted file.now counts × Chained file.now index.old × (smallTable < (tableIn file.now).size) × (a < (tableIn file.now).size) }
-    ensures { Chained file.now index.new × DegreesFrom file.now a result index.new × (result + (tableIn file.now).size ≤ length index.new) }
+    requires { Counted file.now counts × Chained file.now index.old × (small_table < (table_in file.now).size) × (a < (table_in file.now).size) }
+    ensures { Chained file.now index.new × DegreesFrom file.now a result index.new × (result + (table_in file.now).size ≤ length index.new) }
 {
     let symbols = counts.symbols as usize;
     let tags = 3 * symbols + 1 + counts.pairs as usize;

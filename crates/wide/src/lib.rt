@@ -1,18 +1,16 @@
 // The lowest and the highest degree at a position of a variable where many symbols are shared. The degrees of each faced symbol with all symbols
 // are laid out in one row of numbers, by its own pairs alone, and the least of these rows is gone over once: so no pair is sought.
-#![tactic(auto)]
-
 mod clear;
 mod kept;
 pub mod links;
 mod row;
 
 ghost use Rattle.std.specs.Prelude.{◌≡◌, ℕ, ◌<◌, ◌≤◌, min, cond, leb, length, get_or};
-ghost use Rattle.meaning.specs.File.{tableIn};
+ghost use Rattle.meaning.specs.File.{table_in};
 ghost use Rattle.meaning.specs.Refusals.{SoundFile};
 ghost use Rattle.table.specs.Read.{Counted};
-ghost use Rattle.wide.specs.Index.{smallTable, Index, Chained};
-ghost use Rattle.wide.specs.Shared.{sharedBy, lowestFrom, highestFrom};
+ghost use Rattle.wide.specs.Index.{small_table, Index, Chained};
+ghost use Rattle.wide.specs.Shared.{shared_by_lem, lowest_from, highest_from};
 
 use crate::kept::kept_row;
 use crate::links::link_pairs;
@@ -56,10 +54,10 @@ fn lower_to_shared(
     faced: SymbolSet,
     least: &mut [u16],
 )
-    requires counted { Counted file.now counts × Chained file.now index.old × (smallTable < (tableIn file.now).size) × ((tableIn file.now).size ≤ length least.old) }
-    requires by_index { (s : ℕ) → s < (tableIn file.now).size → get_or least.old s 0 ≡ 1000 }
+    requires counted { Counted file.now counts × Chained file.now index.old × (small_table < (table_in file.now).size) × ((table_in file.now).size ≤ length least.old) }
+    requires by_index { (s : ℕ) → s < (table_in file.now).size → get_or least.old s 0 ≡ 1000 }
     ensures chained { Chained file.now index.new }
-    ensures by_index_2 { (s : ℕ) → s < (tableIn file.now).size → get_or least.new s 0 ≡ sharedBy (tableIn file.now) faced.words s }
+    ensures by_index_2 { (s : ℕ) → s < (table_in file.now).size → get_or least.new s 0 ≡ shared_by_lem (table_in file.now) faced.words s }
 {
     let symbols = counts.symbols;
     let mut a = next_member(&faced.words, 0, symbols);
@@ -81,7 +79,7 @@ fn from_floor(degree: u16, floor: u16, other: u16) -> u16
 // The lowest and the highest of the symbols' numbers that are not below `floor`.
 fn rate(least: &[u16], symbols: usize, floor: u16) -> Degrees
     requires { symbols ≤ length least.now }
-    ensures { (f : ℕ → ℕ) → ((s : ℕ) → s < symbols → get_or least.now s 0 ≡ f s) → (result.lowest ≡ lowestFrom floor symbols f) × (result.highest ≡ highestFrom floor symbols f) }
+    ensures { (f : ℕ → ℕ) → ((s : ℕ) → s < symbols → get_or least.now s 0 ≡ f s) → (result.lowest ≡ lowest_from floor symbols f) × (result.highest ≡ highest_from floor symbols f) }
 {
     let mut lowest = WHOLE;
     let mut highest: u16 = 0;
@@ -94,10 +92,10 @@ fn rate(least: &[u16], symbols: usize, floor: u16) -> Degrees
 
 // The lowest and the highest degree that a symbol shares with the faced ones, of those that share at least `floor`.
 pub fn wide_degrees(file: &[u8], index: &mut [u16], faced: SymbolSet, floor: u16) -> Degrees
-    requires { SoundFile file.now × Index file.now index.old × (smallTable < (tableIn file.now).size) }
+    requires { SoundFile file.now × Index file.now index.old × (small_table < (table_in file.now).size) }
     ensures index { Index file.now index.new }
-    ensures lowest_value { result.lowest ≡ lowestFrom floor (tableIn file.now).size (sharedBy (tableIn file.now) faced.words) }
-    ensures highest_value { result.highest ≡ highestFrom floor (tableIn file.now).size (sharedBy (tableIn file.now) faced.words) }
+    ensures lowest_value { result.lowest ≡ lowest_from floor (table_in file.now).size (shared_by_lem (table_in file.now) faced.words) }
+    ensures highest_value { result.highest ≡ highest_from floor (table_in file.now).size (shared_by_lem (table_in file.now) faced.words) }
 {
     let counts = counts_of(file);
     link_pairs(file, counts, index);

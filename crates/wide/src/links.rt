@@ -1,10 +1,10 @@
 // The index of a table's pairs: the rows of its symbols, and a chain of the pairs of each higher symbol.
 ghost use Rattle.std.specs.Prelude.{◌≤◌, ◌<◌, length};
-ghost use Rattle.meaning.specs.File.{pairCount, tableIn};
+ghost use Rattle.meaning.specs.File.{pair_count_lem, table_in};
 ghost use Rattle.meaning.specs.Refusals.{SoundFile};
 ghost use Rattle.table.specs.Read.{Counted};
 ghost use Rattle.degrees.specs.Rows.{Rows};
-ghost use Rattle.wide.specs.Index.{smallTable, indexRoom, Linked, Index, Chained};
+ghost use Rattle.wide.specs.Index.{small_table, index_room, Linked, Index, Chained};
 
 use crate::KEPT_ROWS;
 use crate::clear::clear;
@@ -17,7 +17,7 @@ const LINKED: u16 = 1;
 
 // Makes a list an index in which nothing is laid out, whatever stood in it.
 pub fn open_index(file: &[u8], index: &mut [u16])
-    requires { SoundFile file.now × (indexRoom file.now ≤ length index.old) }
+    requires { SoundFile file.now × (index_room file.now ≤ length index.old) }
     ensures { Index file.now index.new }
 {
     clear(index, 0, 2 * symbol_count(file) as usize + 1);
@@ -25,8 +25,8 @@ pub fn open_index(file: &[u8], index: &mut [u16])
 
 // Chains the pairs of each higher symbol: a pair is linked to the one that was the head, and is then the head itself.
 fn lay_links(file: &[u8], counts: Counts, index: &mut [u16])
-    requires { Counted file.now counts × Rows file.now index.old × (indexRoom file.now ≤ length index.old) }
-    ensures { Rows file.now index.new × Linked file.now (pairCount file.now) index.new }
+    requires { Counted file.now counts × Rows file.now index.old × (index_room file.now ≤ length index.old) }
+    ensures { Rows file.now index.new × Linked file.now (pair_count_lem file.now) index.new }
 {
     let symbols = counts.symbols as usize;
     let heads = 2 * symbols + 1;
@@ -43,7 +43,7 @@ fn lay_links(file: &[u8], counts: Counts, index: &mut [u16])
 
 // Lays out rows and chains, if that was not done before. No degrees are kept yet.
 pub fn link_pairs(file: &[u8], counts: Counts, index: &mut [u16])
-    requires { Counted file.now counts × Index file.now index.old × (smallTable < (tableIn file.now).size) }
+    requires { Counted file.now counts × Index file.now index.old × (small_table < (table_in file.now).size) }
     ensures { Chained file.now index.new }
 {
     let symbols = counts.symbols as usize;

@@ -1,6 +1,6 @@
 // The degrees of one symbol with every symbol, in a row of numbers. Only the symbol's own pairs are walked: with all others its degree is 0.
 ghost use Rattle.std.specs.Prelude.{◌≡◌, ℕ, ◌<◌, ◌≤◌, length, get_or};
-ghost use Rattle.meaning.specs.File.{tableIn};
+ghost use Rattle.meaning.specs.File.{table_in};
 ghost use Rattle.table.specs.Read.{Counted};
 ghost use Rattle.degrees.specs.Rows.{Rows};
 ghost use Rattle.wide.specs.Index.{Chained};
@@ -14,7 +14,7 @@ use table::read::Counts;
 // The first pair that is not before the row of symbol `a`. Where rows are laid out it is the first that is looked at, unless the symbol has no row: then
 // halving finds where it would stand.
 fn row_start(file: &[u8], counts: Counts, index: &[u16], a: u16) -> usize
-    requires { Counted file.now counts × Rows file.now index.now × (a < (tableIn file.now).size) }
+    requires { Counted file.now counts × Rows file.now index.now × (a < (table_in file.now).size) }
     ensures { RowFrom file.now a result × (result < 65536) }
 {
     let start = 10 + counts.symbols as usize;
@@ -37,7 +37,7 @@ fn row_start(file: &[u8], counts: Counts, index: &[u16], a: u16) -> usize
 
 // Zeros, and the degrees of symbol `a` with the higher symbols of its pairs, which stand side by side.
 fn lay_row(file: &[u8], counts: Counts, index: &[u16], a: u16, row: &mut [u16])
-    requires { Counted file.now counts × Rows file.now index.now × (a < (tableIn file.now).size) × ((tableIn file.now).size ≤ length row.old) }
+    requires { Counted file.now counts × Rows file.now index.now × (a < (table_in file.now).size) × ((table_in file.now).size ≤ length row.old) }
     ensures { Laid file.now a (InRow file.now a) row.new }
 {
     let symbols = counts.symbols as usize;
@@ -56,9 +56,9 @@ fn lay_row(file: &[u8], counts: Counts, index: &[u16], a: u16, row: &mut [u16])
 
 // Adds its degrees with the lower symbols of its pairs, from pair to pair of its chain.
 fn lay_chain(file: &[u8], counts: Counts, index: &[u16], a: u16, row: &mut [u16])
-    requires counted { Counted file.now counts × Chained file.now index.now × (a < (tableIn file.now).size) }
+    requires counted { Counted file.now counts × Chained file.now index.now × (a < (table_in file.now).size) }
     requires laid { Laid file.now a (InRow file.now a) row.old }
-    ensures { (s : ℕ) → s < (tableIn file.now).size → (s ≡ a → ⊥) → get_or row.new s 0 ≡ (tableIn file.now).deg s a }
+    ensures { (s : ℕ) → s < (table_in file.now).size → (s ≡ a → ⊥) → get_or row.new s 0 ≡ (table_in file.now).deg s a }
 {
     let symbols = counts.symbols as usize;
     let heads = 2 * symbols + 1;
@@ -75,7 +75,7 @@ fn lay_chain(file: &[u8], counts: Counts, index: &[u16], a: u16, row: &mut [u16]
 
 // The degrees of symbol `a` with every symbol.
 pub fn lay_degrees(file: &[u8], counts: Counts, index: &[u16], a: u16, row: &mut [u16])
-    requires { Counted file.now counts × Chained file.now index.now × (a < (tableIn file.now).size) × ((tableIn file.now).size ≤ length row.old) }
+    requires { Counted file.now counts × Chained file.now index.now × (a < (table_in file.now).size) × ((table_in file.now).size ≤ length row.old) }
     ensures { DegreesOf file.now a row.new }
 {
     lay_row(file, counts, index, a, row);

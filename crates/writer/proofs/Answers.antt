@@ -5,9 +5,9 @@ use mathlib.Core.List.{List, ◌++◌}
 use Prim.Native.Nat.{ℕ, ◌≤◌}
 use lib.ListN.{length, drop}
 use Rattle.theory.specs.Pairs.{Pair}
-use Rattle.meaning.specs.File.{aritiesIn, pairsIn}
+use Rattle.meaning.specs.File.{arities_in, pairs_in}
 use Rattle.meaning.specs.Refusals.{SoundFile}
-use Rattle.meaning.specs.Calls.{written, laterOutput}
+use Rattle.meaning.specs.Calls.{written, later_output}
 use Rattle.meaning.specs.Tables.{Bytes, Writes}
 use Rattle.meaning.proofs.RoundTrip.{round_trip}
 use Rattle.refusal.proofs.One.{one_refusal, gives_none}
@@ -23,13 +23,13 @@ one-said (Refused why) (Refused other) e = ap Refused (one_refusal ℕ why other
 
 -- LAW: what was written is a table, which reads back to the same arities and pairs; all else stays
 pub read_back : (arities : List ℕ) (pairs : List Pair) (output : List ℕ) (r : Writing) (later : List ℕ)
-    → said r ≡ written arities pairs output → later ≡ laterOutput arities pairs output → Writes arities pairs output (record { answer = said r; output = later })
+    → said r ≡ written arities pairs output → later ≡ later_output arities pairs output → Writes arities pairs output (record { answer = said r; output = later })
 read_back arities pairs output r later e f =
     subst (λ w. Writes arities pairs output w) (ap₂ (λ a l. record { answer = a; output = l }) (sym e) (sym f)) (round_trip.read_written arities pairs output)
 
 -- LAW: what was read from a table is written as the table's own bytes
-pub written-again : (table output : List ℕ) → Bytes table → SoundFile table → length table ≤ length output → (pairs : List Pair) → pairs ≡ pairsIn table
-    → (r : Writing) (later : List ℕ) → said r ≡ written (aritiesIn table) pairs output → later ≡ laterOutput (aritiesIn table) pairs output
+pub written-again : (table output : List ℕ) → Bytes table → SoundFile table → length table ≤ length output → (pairs : List Pair) → pairs ≡ pairs_in table
+    → (r : Writing) (later : List ℕ) → said r ≡ written (arities_in table) pairs output → later ≡ later_output (arities_in table) pairs output
     → (r ≡ Written (length table)) × (later ≡ table ++ drop (length table) output)
 written-again table output b s l pairs same r later e f =
     let w = round_trip.written_read table output b s l in

@@ -10,17 +10,17 @@ use lib.ListN.{length, get_or, get_or-eq_default}
 use Rattle.theory.specs.Least.{All}
 use Rattle.theory.specs.Pairs.{Pair, pair, SoundPair}
 use Rattle.theory.proofs.Lemmas.{or_right}
-use Rattle.meaning.specs.File.{pair_bytes, pairs_bytes, pairsOf, numbersOf}
+use Rattle.meaning.specs.File.{pair_bytes, pairs_bytes, pairs_of, numbers_of_lem}
 use Rattle.meaning.specs.Refusals.{unsound}
 use Rattle.table.proofs.Rising.{Short}
-use Rattle.layout.specs.Bytes.{numbersBytes}
+use Rattle.layout.specs.Bytes.{numbers_bytes}
 
 -- the pair whose first number is number i
 abbrev pub three_at : List ℕ → ℕ → Pair
 three_at ns i = pair (get_or ns i 0) (get_or ns (i + 1) 0) (get_or ns (i + 2) 0)
 
-pub length-pairs_of : (ns : List ℕ) → length (pairsOf ns) ≡ (length ns + 2) / 3
-unfolding pairsOf
+pub length-pairs_of : (ns : List ℕ) → length (pairs_of ns) ≡ (length ns + 2) / 3
+unfolding pairs_of
 length-pairs_of [] = refl
 length-pairs_of (l ∷ []) = refl
 length-pairs_of (l ∷ h ∷ []) = refl
@@ -40,8 +40,8 @@ three_on l h d ns k =
     let c : 3 * suc k + 2 ≡ suc (suc (suc (3 * k + 2))) = omega arith in
     rw (c, b, a)
 
-pub pair_at_lem : (ns : List ℕ) (k : ℕ) → get_or (pairsOf ns) k (pair 0 0 0) ≡ three_at ns (3 * k)
-unfolding pairsOf
+pub pair_at_lem : (ns : List ℕ) (k : ℕ) → get_or (pairs_of ns) k (pair 0 0 0) ≡ three_at ns (3 * k)
+unfolding pairs_of
 pair_at_lem [] k = refl
 pair_at_lem (l ∷ []) zero = refl
 pair_at_lem (l ∷ h ∷ []) zero = refl
@@ -51,23 +51,23 @@ pair_at_lem (l ∷ h ∷ []) (suc k) = three_past (l ∷ h ∷ []) (3 * suc k) (
 pair_at_lem (l ∷ h ∷ d ∷ ns) (suc k) = pair_at_lem ns k ∙ three_on l h d ns k
 
 -- the pairs of short numbers are short
-pub short_pairs : (ns : List ℕ) → ((j : ℕ) → get_or ns j 0 < 65536) → (j : ℕ) → Short (get_or (pairsOf ns) j (pair 0 0 0))
+pub short_pairs : (ns : List ℕ) → ((j : ℕ) → get_or ns j 0 < 65536) → (j : ℕ) → Short (get_or (pairs_of ns) j (pair 0 0 0))
 short_pairs ns short j = rw (pair_at_lem ns j) (short (3 * j + 1))
 
-pub pairs_of_numbers : (ps : List Pair) → pairsOf (numbersOf ps) ≡ ps
-unfolding pairsOf numbersOf
+pub pairs_of_numbers : (ps : List Pair) → pairs_of (numbers_of_lem ps) ≡ ps
+unfolding pairs_of numbers_of_lem
 pairs_of_numbers [] = refl
 pairs_of_numbers (pair l h d ∷ ps) = ap (λ qs. pair l h d ∷ qs) (pairs_of_numbers ps)
 
-pub bytes_of_pairs : (ns : List ℕ) → length ns % 3 ≡ 0 → pairs_bytes (pairsOf ns) ≡ numbersBytes ns
-unfolding pairsOf
+pub bytes_of_pairs : (ns : List ℕ) → length ns % 3 ≡ 0 → pairs_bytes (pairs_of ns) ≡ numbers_bytes ns
+unfolding pairs_of
 bytes_of_pairs [] e = refl
 bytes_of_pairs (l ∷ []) e = absurd (omega arith)
 bytes_of_pairs (l ∷ h ∷ []) e = absurd (omega arith)
 bytes_of_pairs (l ∷ h ∷ d ∷ ns) e = ap (λ bs. pair_bytes (pair l h d) ++ bs) (bytes_of_pairs ns (omega arith))
 
-pub sound_whole : (arities ns : List ℕ) → All (SoundPair arities) (pairsOf ns) → length ns % 3 ≡ 0
-unfolding pairsOf
+pub sound_whole : (arities ns : List ℕ) → All (SoundPair arities) (pairs_of ns) → length ns % 3 ≡ 0
+unfolding pairs_of
 sound_whole arities [] s = refl
 sound_whole arities (l ∷ []) s = absurd (omega (arith, s.0.3))
 sound_whole arities (l ∷ h ∷ []) s = absurd (omega (arith, s.0.3))
@@ -77,5 +77,5 @@ sound_whole arities (l ∷ h ∷ d ∷ ns) s = omega (arith, sound_whole arities
 no_degree : (arities : List ℕ) (l h : ℕ) → unsound arities (pair l h 0) ≡ true
 no_degree arities l h = or_right (not (ltb l h) || not (ltb h (length arities)) || not (eqb (get_or arities l 0) (get_or arities h 0))) true refl
 
-pub cut_short : (arities ns : List ℕ) (k : ℕ) → length ns ≤ 3 * k + 2 → unsound arities (get_or (pairsOf ns) k (pair 0 0 0)) ≡ true
+pub cut_short : (arities ns : List ℕ) (k : ℕ) → length ns ≤ 3 * k + 2 → unsound arities (get_or (pairs_of ns) k (pair 0 0 0)) ≡ true
 cut_short arities ns k l = rw (pair_at_lem ns k, get_or-eq_default ns 0 l) (no_degree arities (get_or ns (3 * k) 0) (get_or ns (3 * k + 1) 0))

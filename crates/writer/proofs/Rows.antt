@@ -11,30 +11,30 @@ use lib.Dec.{ltb}
 use lib.ListN.{length, get_or, get_or-eq_default}
 use borrow.Author.Tests.{ltb-true, ltb-false, lt-ltb, le-ltb}
 use Rattle.theory.proofs.Lemmas.{least_just, both_false}
-use Rattle.meaning.specs.Limits.{mostSymbols, mostPairs, most_arguments}
+use Rattle.meaning.specs.Limits.{most_symbols, most_pairs, most_arguments}
 use Rattle.meaning.specs.File.{total, header}
 use Rattle.meaning.specs.Refusals.{Refusal, refusal, Row, row, row_place, first, outside, row2, row3}
 use Rattle.meaning.specs.Calls.{Answer, refused, gives, unless}
 use Rattle.meaning.proofs.First.{unless_refused, unless_gives, Silent, all_silent}
 use Rattle.meaning.proofs.Sound.{at0-none, inside_of}
 use Rattle.meaning.specs.Over.{over}
-use Rattle.writer.specs.Counted.{counted_rows, countedAnswer, begunOutput}
+use Rattle.writer.specs.Counted.{counted_rows, counted_answer, begun_output}
 use Rattle.meaning.specs.Calls.{refused_as}
 
 -- the counts are within their limits
 pub record Counted (symbols p : ℕ) : Type 0 where
   pub some : 1 ≤ symbols
-  pub few : symbols ≤ mostSymbols
-  pub few_pairs_lem : p ≤ mostPairs
+  pub few : symbols ≤ most_symbols
+  pub few_pairs_lem : p ≤ most_pairs
 
 pub counts_within : (symbols p : ℕ) → Silent (row2 symbols p) → Counted symbols p
 unfolding row2
 counts_within symbols p e =
-    let a = outside 1 mostSymbols symbols in
-    let b = outside 0 mostPairs p in
+    let a = outside 1 most_symbols symbols in
+    let b = outside 0 most_pairs p in
     let q = both_false a b (at0-none (a || b) e) in
-    let i = inside_of 1 mostSymbols symbols q.0 in
-    record { some = i.0; few = i.1; few_pairs_lem = (inside_of 0 mostPairs p q.1).1 }
+    let i = inside_of 1 most_symbols symbols q.0 in
+    record { some = i.0; few = i.1; few_pairs_lem = (inside_of 0 most_pairs p q.1).1 }
 
 -- ---- what an answer tells of the rows it was made by
 
@@ -51,37 +51,37 @@ module _ (arities : List ℕ) (p sound room : ℕ) where
   rows = counted_rows arities p sound room
 
   abbrev answer : Answer ℕ
-  answer = countedAnswer arities p sound room
+  answer = counted_answer arities p sound room
 
   pub by_counts : row2 (length arities) p ≡ row 2 (just 0) → refused 2 0 ≡ answer
-  unfolding countedAnswer counted_rows
+  unfolding counted_answer counted_rows
   by_counts e = rw e
 
   module _ (counts : row2 (length arities) p ≡ row 2 none) where
     pub by_arity : (symbol : ℕ) → row3 arities ≡ row 3 (just symbol) → refused 3 symbol ≡ answer
-    unfolding countedAnswer counted_rows
+    unfolding counted_answer counted_rows
     by_arity symbol e = rw (counts, e)
 
     module _ (low : row3 arities ≡ row 3 none) where
       pub by_pair : sound < p → refused 4 sound ≡ answer
-      unfolding countedAnswer counted_rows
+      unfolding counted_answer counted_rows
       by_pair l = rw (counts, low, lt-ltb sound p l)
 
       pub by_room : p ≤ sound → room < total (length arities) p → refused 8 0 ≡ answer
-      unfolding countedAnswer counted_rows
+      unfolding counted_answer counted_rows
       by_room l m = rw (counts, low, le-ltb sound p l, lt-ltb room (total (length arities) p) m)
 
       pub by_none : p ≤ sound → total (length arities) p ≤ room → gives (total (length arities) p) ≡ answer
-      unfolding countedAnswer counted_rows
+      unfolding counted_answer counted_rows
       by_none l m = rw (counts, low, le-ltb sound p l, le-ltb room (total (length arities) p) m)
 
   -- a file that is written
   pub given_counted : (n : ℕ) → gives n ≡ answer → Counted (length arities) p
-  unfolding countedAnswer counted_rows
+  unfolding counted_answer counted_rows
   given_counted n e = counts_within (length arities) p (all_silent rows (answered_none (first rows) (total (length arities) p) n e)).0
 
   pub given_room : (n : ℕ) → gives n ≡ answer → total (length arities) p ≤ room
-  unfolding countedAnswer counted_rows
+  unfolding counted_answer counted_rows
   given_room n e =
       let t = total (length arities) p in
       ltb-false room t (at0-none (ltb room t) (all_silent rows (answered_none (first rows) t n e)).1.1.1.0)
@@ -101,10 +101,10 @@ arity_within arities symbol e = go (dec_lt symbol (length arities))
 -- ---- what the output holds once its front is written
 
 module _ (arities : List ℕ) (p sound : ℕ) (output : List ℕ) where
-  pub begun_given : (n : ℕ) → gives n ≡ countedAnswer arities p sound (length output) → over output 0 (header (length arities) p ++ arities) ≡ begunOutput arities p sound output
-  unfolding countedAnswer begunOutput
+  pub begun_given : (n : ℕ) → gives n ≡ counted_answer arities p sound (length output) → over output 0 (header (length arities) p ++ arities) ≡ begun_output arities p sound output
+  unfolding counted_answer begun_output
   begun_given n e = rw (answered_none (first (counted_rows arities p sound (length output))) (total (length arities) p) n e)
 
-  pub begun_refused : (r : Refusal) → refused_as r ≡ countedAnswer arities p sound (length output) → output ≡ begunOutput arities p sound output
-  unfolding countedAnswer begunOutput
+  pub begun_refused : (r : Refusal) → refused_as r ≡ counted_answer arities p sound (length output) → output ≡ begun_output arities p sound output
+  unfolding counted_answer begun_output
   begun_refused r e = rw (answered_some (first (counted_rows arities p sound (length output))) (total (length arities) p) r e)

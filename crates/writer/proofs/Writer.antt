@@ -11,25 +11,25 @@ use lib.ListN.{length, length-append}
 use Rattle.theory.specs.Least.{All}
 use Rattle.theory.specs.Pairs.{Pair, SoundPair}
 use Rattle.theory.proofs.Lemmas.{or_right}
-use Rattle.meaning.specs.Limits.{mostSymbols, mostPairs}
+use Rattle.meaning.specs.Limits.{most_symbols, most_pairs}
 use Rattle.meaning.specs.File.{total, header, pairs_bytes, file_of}
 use Rattle.meaning.specs.Refusals.{Refusal, row, first, at0, outside, row2, row4, row8-output}
-use Rattle.meaning.specs.Calls.{Answer, gives, refused, refused_as, writer_rows, written, laterOutput}
+use Rattle.meaning.specs.Calls.{Answer, gives, refused, refused_as, writer_rows, written, later_output}
 use Rattle.meaning.proofs.First.{all_silent}
 use Rattle.meaning.proofs.Sound.{sound_pairs_lem}
 use Rattle.meaning.proofs.Writing.{length_file}
 use Rattle.meaning.specs.Over.{over}
-use Rattle.writer.specs.Counted.{stop, counted_rows, countedAnswer, begunOutput}
+use Rattle.writer.specs.Counted.{stop, counted_rows, counted_answer, begun_output}
 use Rattle.meaning.proofs.Over.{over_next, over_front}
 use Rattle.writer.proofs.Rows.{answered_none, answered_some, given_room, begun_given, begun_refused}
 
 module _ (arities : List ℕ) (pairs : List Pair) (output : List ℕ) (sound : ℕ) where
   -- what is answered where so many pairs are sound, and the output once the front is written
   abbrev pub sound_answer : Answer ℕ
-  sound_answer = countedAnswer arities (length pairs) sound (length output)
+  sound_answer = counted_answer arities (length pairs) sound (length output)
 
   abbrev pub sound_front : List ℕ
-  sound_front = begunOutput arities (length pairs) sound output
+  sound_front = begun_output arities (length pairs) sound output
 
   abbrev all : ℕ
   all = total (length arities) (length pairs)
@@ -37,12 +37,12 @@ module _ (arities : List ℕ) (pairs : List Pair) (output : List ℕ) (sound : �
   module _ (counted : row4 arities pairs ≡ row 4 (stop sound (length pairs))) where
     -- LAW: that is what the writer answers
     pub answer_written : sound_answer ≡ written arities pairs output
-    unfolding countedAnswer counted_rows written writer_rows row8-output
+    unfolding counted_answer counted_rows written writer_rows row8-output
     answer_written = rw counted
 
     -- LAW: where it is a refusal, the output is left as it has to be
-    pub refused_later : (r : Refusal) → refused_as r ≡ sound_answer → sound_front ≡ laterOutput arities pairs output
-    unfolding written laterOutput
+    pub refused_later : (r : Refusal) → refused_as r ≡ sound_answer → sound_front ≡ later_output arities pairs output
+    unfolding written later_output
     refused_later r e =
         let later : first (writer_rows arities pairs output) ≡ _ = answered_some (first (writer_rows arities pairs output)) all r (e ∙ answer_written) in
         sym (begun_refused _ _ _ _ r e) ∙ rw later
@@ -56,12 +56,12 @@ module _ (arities : List ℕ) (pairs : List Pair) (output : List ℕ) (sound : �
       unfolding writer_rows
       written_sound = sound_pairs_lem arities pairs (all_silent (writer_rows arities pairs output) written_none).1.1.0
 
-      file_later : over output 0 (file_of arities pairs) ≡ laterOutput arities pairs output
-      unfolding laterOutput
+      file_later : over output 0 (file_of arities pairs) ≡ later_output arities pairs output
+      unfolding later_output
       file_later = over_front output (file_of arities pairs) ∙ rw (written_none, length_file arities pairs)
 
       -- LAW: where it is none, the pairs' bytes behind the front make the file
-      pub written-later : {end : List ℕ} → end ≡ over sound_front (10 + length arities) (pairs_bytes pairs) → end ≡ laterOutput arities pairs output
+      pub written-later : {end : List ℕ} → end ≡ over sound_front (10 + length arities) (pairs_bytes pairs) → end ≡ later_output arities pairs output
       unfolding file_of
       written-later f =
           let h = header (length arities) (length pairs) in
@@ -71,17 +71,17 @@ module _ (arities : List ℕ) (pairs : List Pair) (output : List ℕ) (sound : �
           ∙ file_later
 
 -- LAW: pairs that are more than a table may have are refused for their number
-module _ (arities : List ℕ) (pairs : List Pair) (output : List ℕ) (many : mostPairs < length pairs) where
+module _ (arities : List ℕ) (pairs : List Pair) (output : List ℕ) (many : most_pairs < length pairs) where
   refused_row : row2 (length arities) (length pairs) ≡ row 2 (just 0)
   unfolding row2
   refused_row =
       let p = length pairs in
-      ap (λ b. row 2 (at0 b)) (or_right (outside 1 mostSymbols (length arities)) (outside 0 mostPairs p) (or_right (ltb p 0) (ltb mostPairs p) (lt-ltb mostPairs p many)))
+      ap (λ b. row 2 (at0 b)) (or_right (outside 1 most_symbols (length arities)) (outside 0 most_pairs p) (or_right (ltb p 0) (ltb most_pairs p) (lt-ltb most_pairs p many)))
 
   pub many_refused : refused 2 0 ≡ written arities pairs output
   unfolding written writer_rows
   many_refused = rw refused_row
 
-  pub many_left : output ≡ laterOutput arities pairs output
-  unfolding laterOutput writer_rows
+  pub many_left : output ≡ later_output arities pairs output
+  unfolding later_output writer_rows
   many_left = rw refused_row

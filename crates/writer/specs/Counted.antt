@@ -7,8 +7,8 @@ use Rattle.meaning.specs.Calls.{Answer, unless}
 use Rattle.meaning.specs.Over.{over}
 
 -- The numbers from number `at` on.
-abbrev pub numbersFrom : List ℕ → ℕ → ℕ → ℕ
-numbersFrom numbers at n = get_or numbers (at + n) 0
+abbrev pub numbers_from : List ℕ → ℕ → ℕ → ℕ
+numbers_from numbers at n = get_or numbers (at + n) 0
 
 -- Where p pairs stop being sound, if so many of them are, from the first on: at the next one, if there is one.
 abbrev pub stop : ℕ → ℕ → Option ℕ
@@ -19,13 +19,13 @@ unfoldable pub counted_rows : List ℕ → ℕ → ℕ → ℕ → List Row
 counted_rows arities p sound room =
     row2 (length arities) p ∷ row3 arities ∷ row 4 (stop sound p) ∷ row 8 (at0 (ltb room (total (length arities) p))) ∷ []
 
-unfoldable pub countedAnswer : List ℕ → ℕ → ℕ → ℕ → Answer ℕ
-countedAnswer arities p sound room = unless (first (counted_rows arities p sound room)) (total (length arities) p)
+unfoldable pub counted_answer : List ℕ → ℕ → ℕ → ℕ → Answer ℕ
+counted_answer arities p sound room = unless (first (counted_rows arities p sound room)) (total (length arities) p)
 
 -- What the output holds once all but the pairs is written; or as it was.
 abbrev pub front_unless : Option Refusal → List ℕ → ℕ → List ℕ → List ℕ
 front_unless none arities p output = over output 0 (header (length arities) p ++ arities)
 front_unless (just r) arities p output = output
 
-unfoldable pub begunOutput : List ℕ → ℕ → ℕ → List ℕ → List ℕ
-begunOutput arities p sound output = front_unless (first (counted_rows arities p sound (length output))) arities p output
+unfoldable pub begun_output : List ℕ → ℕ → ℕ → List ℕ → List ℕ
+begun_output arities p sound output = front_unless (first (counted_rows arities p sound (length output))) arities p output

@@ -2,13 +2,13 @@
 // 16, whose numbers are tested side by side (`table::lanes`); from a run that fails on, they are tested one by one.
 ghost use Rattle.std.specs.Prelude.{◌≡◌, true, false, not, ◌+◌, ◌/◌, ◌≤◌, ◌<◌, length};
 ghost use Rattle.std.proofs.Math.Option.{none};
-ghost use Rattle.theory.specs.Least.{leastBelow};
-ghost use Rattle.meaning.specs.Limits.{mostSymbols};
-ghost use Rattle.meaning.specs.File.{pairsOf};
-ghost use Rattle.meaning.specs.Refusals.{row, row4, badPair};
-ghost use Rattle.table.specs.Keys.{keyBefore};
+ghost use Rattle.theory.specs.Least.{least_below};
+ghost use Rattle.meaning.specs.Limits.{most_symbols};
+ghost use Rattle.meaning.specs.File.{pairs_of};
+ghost use Rattle.meaning.specs.Refusals.{row, row4, bad_pair_lem};
+ghost use Rattle.table.specs.Keys.{key_before_lem};
 ghost use Rattle.table.specs.Runs.{OrderedRun, AlikeRun};
-ghost use Rattle.writer.specs.Counted.{numbersFrom, stop};
+ghost use Rattle.writer.specs.Counted.{numbers_from, stop};
 
 use table::lanes::{LANES, RUN, lane_fault};
 use table::rules::{MOST_SYMBOLS, key, may_follow};
@@ -16,7 +16,7 @@ use table::rules::{MOST_SYMBOLS, key, may_follow};
 // Whether the pairs of a run are in order and in their ranges. The pair before them begins at number `at`.
 fn in_order(numbers: &[u16], at: usize, symbols: u16) -> bool
     requires { (at + 52 ≤ length numbers.now) × (2 ≤ symbols) }
-    ensures { result ≡ true → OrderedRun symbols (numbersFrom numbers.now at) }
+    ensures { result ≡ true → OrderedRun symbols (numbers_from numbers.now at) }
 {
     let mut fault: u16 = 0;
     for lane in 0..LANES {
@@ -36,8 +36,8 @@ fn in_order(numbers: &[u16], at: usize, symbols: u16) -> bool
 
 // Whether both symbols of each pair of a run have one arity.
 fn alike(numbers: &[u16], at: usize, arities: &[u8]) -> bool
-    requires { (at + 52 ≤ length numbers.now) × OrderedRun (length arities.now) (numbersFrom numbers.now at) }
-    ensures { result ≡ true → AlikeRun arities.now (numbersFrom numbers.now at) }
+    requires { (at + 52 ≤ length numbers.now) × OrderedRun (length arities.now) (numbers_from numbers.now at) }
+    ensures { result ≡ true → AlikeRun arities.now (numbers_from numbers.now at) }
 {
     for j in 0..RUN {
         let i = at + 3 * (j + 1);
@@ -52,8 +52,8 @@ fn alike(numbers: &[u16], at: usize, arities: &[u8]) -> bool
 
 // So many pairs are good, where the first is: those of the runs after it, up to one that fails, or to the last pair, which is in no run.
 fn runs_until(arities: &[u8], numbers: &[u16], pairs: usize) -> usize
-    requires { (length arities.now ≤ mostSymbols) × (pairs ≡ length numbers.now / 3) × (0 < pairs) × (badPair arities.now (pairsOf numbers.now) 0 ≡ false) }
-    ensures { (result ≤ pairs) × (leastBelow result (badPair arities.now (pairsOf numbers.now)) ≡ none) }
+    requires { (length arities.now ≤ most_symbols) × (pairs ≡ length numbers.now / 3) × (0 < pairs) × (bad_pair_lem arities.now (pairs_of numbers.now) 0 ≡ false) }
+    ensures { (result ≤ pairs) × (least_below result (bad_pair_lem arities.now (pairs_of numbers.now)) ≡ none) }
 {
     let symbols = arities.len() as u16;
     let mut last: usize = 0;
@@ -73,7 +73,7 @@ fn runs_until(arities: &[u8], numbers: &[u16], pairs: usize) -> usize
 // So many pairs, from the first on, are good.
 fn good_until(arities: &[u8], numbers: &[u16], pairs: usize) -> usize
     requires { pairs ≡ length numbers.now / 3 }
-    ensures { (result ≤ pairs) × (leastBelow result (badPair arities.now (pairsOf numbers.now)) ≡ none) }
+    ensures { (result ≤ pairs) × (least_below result (bad_pair_lem arities.now (pairs_of numbers.now)) ≡ none) }
 {
     if pairs < RUN + 2 {
         return 0;
@@ -91,7 +91,7 @@ fn good_until(arities: &[u8], numbers: &[u16], pairs: usize) -> usize
 // The key of the pair before pair k; 0 before the first.
 fn key_before(numbers: &[u16], k: usize) -> u32
     requires { k ≤ length numbers.now / 3 }
-    ensures { result ≡ keyBefore (pairsOf numbers.now) k }
+    ensures { result ≡ key_before_lem (pairs_of numbers.now) k }
 {
     if k == 0 {
         return 0;
@@ -103,7 +103,7 @@ fn key_before(numbers: &[u16], k: usize) -> u32
 // How many pairs, from the first on, may be listed as they stand. A last pair that is not whole has no degree and so may not: it need not be
 // looked at.
 pub fn sound_pairs(arities: &[u8], numbers: &[u16]) -> usize
-    ensures { row4 arities.now (pairsOf numbers.now) ≡ row 4 (stop result (length (pairsOf numbers.now))) }
+    ensures { row4 arities.now (pairs_of numbers.now) ≡ row 4 (stop result (length (pairs_of numbers.now))) }
 {
     let whole = numbers.len() / 3;
     let mut k = good_until(arities, numbers, whole);

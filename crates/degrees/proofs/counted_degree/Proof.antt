@@ -5,7 +5,7 @@ use mathlib.Core.Path.{sym, ◌∙◌}
 use mathlib.Core.Logic.{inr}
 use Prim.Native.Nat.{◌≤◌}
 use native.Mathlib.Omega.{arith}
-use Rattle.meaning.specs.File.{symbolCount}
+use Rattle.meaning.specs.File.{symbol_count_lem}
 use Rattle.meaning.proofs.Degrees.{degree_outside}
 use Rattle.table.proofs.Reading.{size_is}
 use Rattle.degrees.proofs.Listed.{degree_itself, degree_ordered}
@@ -24,7 +24,7 @@ returns c =
     let lower = c.before.before.before.lesser in
     let higher = c.before.before.greater in
     let file = start.args.file.now in
-    let outside : symbolCount file ≤ higher.result = omega (arith, start.requires.symbols_are, size_is file start.requires.sound) in
+    let outside : symbol_count_lem file ≤ higher.result = omega (arith, start.requires.symbols_are, size_is file start.requires.sound) in
     let none = degree_outside file start.requires.sound lower.result higher.result (inr outside) in
     sym none ∙ degree_ordered file start.requires.sound start.args.a start.args.b _ _ lower.ensures higher.ensures
 

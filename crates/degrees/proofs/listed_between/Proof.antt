@@ -6,8 +6,8 @@ use mathlib.Core.List.{List}
 use Prim.Native.Nat.{ℕ, ◌+◌, ◌*◌, ◌-◌, ◌/◌, ◌≤◌, ◌<◌}
 use native.Mathlib.Omega.{arith}
 use lib.ListN.{length}
-use Rattle.meaning.specs.File.{number, symbolCount, pairCount}
-use Rattle.meaning.specs.Tables.{pairStart}
+use Rattle.meaning.specs.File.{number, symbol_count_lem, pair_count_lem}
+use Rattle.meaning.specs.Tables.{pair_start}
 use Rattle.table.specs.Keys.{key_of}
 use Rattle.table.proofs.Reading.{size_is, pair_inside}
 use Rattle.degrees.proofs.Halving.{Rising, go_up, go_down, none_between}
@@ -17,7 +17,7 @@ use Rattle.degrees.proofs.listed_between.Statement.{statement}
 use Rattle.degrees.proofs.listed_between.Tie as tie
 
 abbrev invariant-loop : tie.invariant-loop
-invariant-loop file first end lower higher wanted start low₀ high₀ low high = Between (key_at file) (pairCount file) wanted low high
+invariant-loop file first end lower higher wanted start low₀ high₀ low high = Between (key_at file) (pair_count_lem file) wanted low high
 
 abbrev decreases-loop : tie.decreases-loop
 decreases-loop file first end lower higher wanted start low₀ high₀ low high = high - low
@@ -31,18 +31,18 @@ module _ (c : tie.In-loop invariant-loop decreases-loop) where
   abbrev middle : ℕ
   middle = (c.before.loop.low + c.before.loop.high) / 2
 
-  below : middle < pairCount fileAt
+  below : middle < pair_count_lem fileAt
   below = omega (arith, c.before.loop.invariant.within)
 
-  start_is : 10 + c.before.before.before.before.before.args.counts.symbols ≡ 10 + symbolCount fileAt
+  start_is : 10 + c.before.before.before.before.before.args.counts.symbols ≡ 10 + symbol_count_lem fileAt
   start_is =
       let pre = c.before.before.before.before.before.requires.0.0 in
       omega (arith, pre.symbols_are, size_is fileAt pre.sound)
 
-  rising : Rising (key_at fileAt) (pairCount fileAt)
+  rising : Rising (key_at fileAt) (pair_count_lem fileAt)
   rising = keys_rise fileAt c.before.before.before.before.before.requires.0.0.sound
 
-  inside : pairStart fileAt middle + 6 ≤ length fileAt
+  inside : pair_start fileAt middle + 6 ≤ length fileAt
   inside = pair_inside fileAt c.before.before.before.before.before.requires.0.0.sound middle below
 
 -- the key that was read is that pair's

@@ -8,7 +8,7 @@ use native.Mathlib.Omega.{arith}
 use lib.ListN.{length, take, drop}
 use Rattle.marc.specs.Subfields.{subfield}
 use Rattle.marc_record.specs.Spans.{Inside, bytes_of}
-use Rattle.known_strings.specs.Lent.{soughtIn}
+use Rattle.known_strings.specs.Lent.{sought_in}
 use Rattle.exchange.proofs.look_up.Statement.{statement}
 use Rattle.exchange.proofs.look_up.Tie as tie
 
@@ -54,10 +54,10 @@ returns c =
     sym c.before.before.find-text.ensures.0 ∙ ap (bytes_of f) c.enum_told.given.1
 
 returns-2 : tie.Need-returns-2
-returns-2 c = (part c.before.before.before.before, found c.before.before.before.before, sym c.before.before.number-of.ensures ∙ ap soughtIn c.enum-told2.given.1)
+returns-2 c = (part c.before.before.before.before, found c.before.before.before.before, sym c.before.before.number-of.ensures ∙ ap sought_in c.enum-told2.given.1)
 
 returns-3 : tie.Need-returns-3
-returns-3 c = (part c.before.before.before.before.before, found c.before.before.before.before.before, sym c.before.before.before.number-of.ensures ∙ ap soughtIn c.before.number.given.1)
+returns-3 c = (part c.before.before.before.before.before, found c.before.before.before.before.before, sym c.before.before.before.number-of.ensures ∙ ap sought_in c.before.number.given.1)
 
 pub look-up-spec : {M : Type 1} → statement M
 look-up-spec =

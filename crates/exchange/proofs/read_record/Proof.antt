@@ -6,7 +6,7 @@ use Prim.Native.Nat.{◌-◌, ◌≤◌}
 use native.Mathlib.Omega.{arith}
 use lib.ListN.{length, take, drop}
 use Rattle.meaning.specs.Refusals.{first}
-use Rattle.marc.specs.Frame.{frameRows}
+use Rattle.marc.specs.Frame.{frame_rows}
 use Rattle.marc.specs.Known.{known_in}
 use Rattle.marc.specs.Heading.{field100}
 use Rattle.marc_record.specs.Frames.{found_at}
@@ -15,7 +15,7 @@ use Rattle.exchange.proofs.Names.{no_frame, no_field, looks_in}
 use Rattle.exchange.proofs.read_record.Statement.{statement}
 use Rattle.exchange.proofs.read_record.Tie as tie
 
-framed : (c : tie.After-enum-told) → first (frameRows c.before.before.before.before.before.before.before.args.bytes.now) ≡ none
+framed : (c : tie.After-enum-told) → first (frame_rows c.before.before.before.before.before.before.before.args.bytes.now) ≡ none
 framed c = sym c.before.before.check-frame.ensures ∙ ap found_at c.enum_told.given.1
 
 inside : (c : tie.After-known-told2) → (c.before.start.given.0.0 ≤ c.before.start.given.0.1.0) × (c.before.start.given.0.1.0 ≤ length c.before.before.before.before.before.before.before.before.before.before.before.args.bytes.now)

@@ -4,7 +4,7 @@ use borrow.Author.Tests.{not_true, not-false}
 use mathlib.Core.Path.{◌≡◌, refl, sym, ◌∙◌}
 use mathlib.Core.Bool.{true, false}
 use Rattle.theory.specs.Read.{reading}
-use Rattle.meaning.specs.File.{tableIn}
+use Rattle.meaning.specs.File.{table_in}
 use Rattle.meaning.specs.Refusals.{SoundFile}
 use Rattle.headings.specs.Terms.{is_whole}
 use Rattle.sound.proofs.Checks.{sound_by, refused_by_lem}
@@ -15,7 +15,7 @@ use Rattle.headings.proofs.accepts_headings.Tie as tie
 table-sound : (c : tie.After-enum-told2) → SoundFile c.before.before.before.before.before.before.before.args.table.now
 table-sound c = sound_by _ c.before.before.check.result c.before.before.check.ensures c.enum-told2.given.1
 
-heading-whole : (c : tie.Else1) → let a = c.before.before.before.before.before.before.before.before.before.args in is_whole (reading (tableIn a.table.now) false a.heading.now) ≡ true
+heading-whole : (c : tie.Else1) → let a = c.before.before.before.before.before.before.before.before.before.args in is_whole (reading (table_in a.table.now) false a.heading.now) ≡ true
 heading-whole c = sym c.before.is-term.ensures ∙ not-false _ c.if1.false
 
 check-requires : tie.Need-check-requires

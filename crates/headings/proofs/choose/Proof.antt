@@ -5,14 +5,14 @@ use mathlib.Core.Path.{◌≡◌, sym, ◌∙◌}
 use mathlib.Core.Bool.{true}
 use native.Mathlib.Omega.{arith}
 use Rattle.meaning.specs.Refusals.{first}
-use Rattle.meaning.specs.Calls.{nearerRows}
+use Rattle.meaning.specs.Calls.{nearer_rows}
 use Rattle.headings.specs.Terms.{accepted}
 use Rattle.headings.proofs.Lists.{all_sound, neither_nearer, first-nearer, second_nearer}
 use Rattle.headings.proofs.choose.Statement.{statement}
 use Rattle.headings.proofs.choose.Tie as tie
 
 -- past the first test all is accepted
-taken : (c : tie.Else1) → let a = c.before.before.before.before.before.before.args in accepted (first (nearerRows a.table.now a.heading.now a.first.now a.second.now)) ≡ true
+taken : (c : tie.Else1) → let a = c.before.before.before.before.before.before.args in accepted (first (nearer_rows a.table.now a.heading.now a.first.now a.second.now)) ≡ true
 taken c = sym c.before.accepts-headings.ensures ∙ not-false _ c.if1.false
 
 accepts-headings-requires : tie.Need-accepts-headings-requires

@@ -1,10 +1,10 @@
 -- Each list is read in turn; where neither has a fault the loop gives the degree of the terms that they write.
 use borrow.Author.Rules.{rules}
 use mathlib.Core.Path.{ap, ◌∙◌}
-use Rattle.meaning.specs.File.{tableIn}
-use Rattle.meaning.specs.Refusals.{tableRows, SoundFile}
+use Rattle.meaning.specs.File.{table_in}
+use Rattle.meaning.specs.Refusals.{table_rows, SoundFile}
 use Rattle.meaning.specs.Calls.{gives, degree_rows, heading_degree}
-use Rattle.terms.specs.Readings.{readingIn}
+use Rattle.terms.specs.Readings.{reading_in}
 use Rattle.terms.specs.Degrees.{Heading}
 use Rattle.terms.proofs.Told.{told}
 use Rattle.sound.proofs.Checks.{sound_by, refused_by_lem, says_early}
@@ -16,11 +16,11 @@ use Rattle.headings.proofs.degree_of_headings.Tie as tie
 table-sound : (c : tie.After-enum-told) → SoundFile c.before.before.before.before.before.before.args.table.now
 table-sound c = sound_by _ c.before.before.check.result c.before.before.check.ensures c.enum_told.given.1
 
-first-whole : (c : tie.After-enum-told2) → let a = c.before.before.before.before.before.before.before.before.before.args in Heading (tableIn a.table.now) a.first.now
-first-whole c = told readingIn c.before.before.read.ensures c.enum-told2.given.1
+first-whole : (c : tie.After-enum-told2) → let a = c.before.before.before.before.before.before.before.before.before.args in Heading (table_in a.table.now) a.first.now
+first-whole c = told reading_in c.before.before.read.ensures c.enum-told2.given.1
 
-second-whole : (c : tie.After-enum-told3) → let a = c.before.before.before.before.before.before.before.before.before.before.before.before.args in Heading (tableIn a.table.now) a.second.now
-second-whole c = told readingIn c.before.before.read2.ensures c.enum-told3.given.1
+second-whole : (c : tie.After-enum-told3) → let a = c.before.before.before.before.before.before.before.before.before.before.before.before.args in Heading (table_in a.table.now) a.second.now
+second-whole c = told reading_in c.before.before.read2.ensures c.enum-told3.given.1
 
 check-requires : tie.Need-check-requires
 check-requires c κs = search rules
@@ -56,17 +56,17 @@ returns : tie.Need-returns
 unfolding heading_degree degree_rows
 returns c =
     let t = c.before.before.before.before.before.before.before.args.table.now in
-    says_early _ c.before.why.given.0.0 (tableRows t) _ (refused_by_lem t c.before.before.before.check.result c.before.before.before.check.ensures c.before.why.given.0.0 c.before.why.given.1)
+    says_early _ c.before.why.given.0.0 (table_rows t) _ (refused_by_lem t c.before.before.before.check.result c.before.before.before.check.ensures c.before.why.given.0.0 c.before.why.given.1)
 
 returns-2 : tie.Need-returns-2
 returns-2 c =
     let s = table-sound c.before.before.before.before in
-    first_faulty _ _ _ s _ (told readingIn c.before.before.before.read.ensures c.before.node.given.1)
+    first_faulty _ _ _ s _ (told reading_in c.before.before.before.read.ensures c.before.node.given.1)
 
 returns-3 : tie.Need-returns-3
 returns-3 c =
     let s = table-sound c.before.before.before.before.before.before.before in
-    second_faulty _ _ _ s _ (first-whole c.before.before.before.before) (told readingIn c.before.before.before.read2.ensures c.before.node2.given.1)
+    second_faulty _ _ _ s _ (first-whole c.before.before.before.before) (told reading_in c.before.before.before.read2.ensures c.before.node2.given.1)
 
 returns-4 : tie.Need-returns-4
 returns-4 c =

@@ -5,7 +5,7 @@ use mathlib.Core.Path.{◌≡◌, refl, sym, ◌∙◌}
 use mathlib.Core.Bool.{true}
 use native.Mathlib.Omega.{arith}
 use Rattle.meaning.specs.Refusals.{first}
-use Rattle.meaning.specs.Calls.{subtermRows}
+use Rattle.meaning.specs.Calls.{subterm_rows}
 use Rattle.meaning.proofs.Parts.{subterms}
 use Rattle.terms.proofs.Ends.{ends_in}
 use Rattle.headings.specs.Terms.{accepted}
@@ -14,7 +14,7 @@ use Rattle.headings.proofs.subterm.Statement.{statement}
 use Rattle.headings.proofs.subterm.Tie as tie
 
 -- past the first test both are accepted
-taken : (c : tie.Else1) → let a = c.before.before.before.before.args in accepted (first (subtermRows a.table.now a.term.now)) ≡ true
+taken : (c : tie.Else1) → let a = c.before.before.before.before.args in accepted (first (subterm_rows a.table.now a.term.now)) ≡ true
 taken c = sym c.before.accepts-term.ensures ∙ not-false _ c.if1.false
 
 accepts-term-requires : tie.Need-accepts-term-requires

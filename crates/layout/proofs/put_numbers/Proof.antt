@@ -7,7 +7,7 @@ use lib.ListN.{length, get_or, take}
 use lib.Seq.{take_all}
 use Rattle.meaning.specs.File.{bytes_of}
 use Rattle.meaning.specs.Over.{over}
-use Rattle.layout.specs.Bytes.{numbersBytes}
+use Rattle.layout.specs.Bytes.{numbers_bytes}
 use Rattle.meaning.proofs.Over.{over_none}
 use Rattle.layout.proofs.Bytes.{number_more}
 use Rattle.layout.proofs.put_numbers.Statement.{statement}
@@ -15,7 +15,7 @@ use Rattle.layout.proofs.put_numbers.Tie as tie
 
 abbrev invariant-loop : tie.invariant-loop
 invariant-loop output₀ at numbers n i₀ output i =
-    (n ≡ length numbers) × (i ≤ n) × (length output ≡ length output₀) × (output ≡ over output₀ at (numbersBytes (take i numbers)))
+    (n ≡ length numbers) × (i ≤ n) × (length output ≡ length output₀) × (output ≡ over output₀ at (numbers_bytes (take i numbers)))
 
 abbrev decreases-loop : tie.decreases-loop
 decreases-loop output₀ at numbers n i₀ output i = n - i
@@ -63,7 +63,7 @@ same_length c = search rules
 returns : tie.Need-returns invariant-loop decreases-loop
 returns c =
     let a = c.before.before.before.before.args in
-    c.before.loop.invariant.3 ∙ ap (λ ns. over a.output.now a.at (numbersBytes ns)) (take_all c.before.loop.i a.numbers.now (omega arith))
+    c.before.loop.invariant.3 ∙ ap (λ ns. over a.output.now a.at (numbers_bytes ns)) (take_all c.before.loop.i a.numbers.now (omega arith))
 
 pub put-numbers-spec : {M : Type 1} → statement M
 put-numbers-spec =

@@ -4,9 +4,9 @@ use mathlib.Core.Path.{◌≡◌, sym, ap, ◌∙◌}
 use mathlib.Core.Bool.{true, false, not}
 use mathlib.Core.Option.{none}
 use Rattle.theory.specs.Read.{reading, whole}
-use Rattle.meaning.specs.File.{tableIn}
+use Rattle.meaning.specs.File.{table_in}
 use Rattle.meaning.specs.Refusals.{row, at0, row5}
-use Rattle.terms.specs.Readings.{readingIn}
+use Rattle.terms.specs.Readings.{reading_in}
 use Rattle.matching.proofs.Searched.{read_few}
 use Rattle.matches.proofs.Asked.{asked_cut, asked_pattern, asked_heading, asked_room}
 use Rattle.matches.proofs.check_asked.Statement.{statement}
@@ -16,11 +16,11 @@ use Rattle.matches.proofs.check_asked.Tie as tie
 cut-fine : (c : tie.Else1) → row5 c.before.before.before.before.before.before.before.args.cut ≡ row 5 none
 cut-fine c = c.before.is_cut.ensures ∙ ap (λ b. row 5 (at0 b)) c.if1.false
 
-pattern-whole : (c : tie.After-enum-told) → let a = c.before.before.before.before.before.before.before.before.before.before.args in reading (tableIn a.table.now) true a.pattern.now ≡ whole
-pattern-whole c = sym c.before.before.read.ensures ∙ ap readingIn c.enum_told.given.1
+pattern-whole : (c : tie.After-enum-told) → let a = c.before.before.before.before.before.before.before.before.before.before.args in reading (table_in a.table.now) true a.pattern.now ≡ whole
+pattern-whole c = sym c.before.before.read.ensures ∙ ap reading_in c.enum_told.given.1
 
-heading-whole : (c : tie.After-enum-told2) → let a = c.before.before.before.before.before.before.before.before.before.before.before.before.before.args in reading (tableIn a.table.now) false a.heading.now ≡ whole
-heading-whole c = sym c.before.before.read2.ensures ∙ ap readingIn c.enum-told2.given.1
+heading-whole : (c : tie.After-enum-told2) → let a = c.before.before.before.before.before.before.before.before.before.before.before.before.before.args in reading (table_in a.table.now) false a.heading.now ≡ whole
+heading-whole c = sym c.before.before.read2.ensures ∙ ap reading_in c.enum-told2.given.1
 
 is-cut-requires : tie.Need-is-cut-requires
 is-cut-requires c κs = search rules
@@ -56,12 +56,12 @@ has-room-requires c κs =
 returns-2 : tie.Need-returns-2
 returns-2 c =
     let a = c.before.before.before.before.before.before.before.before.before.before.before.args in
-    asked_pattern a.table.now a.pattern.now a.heading.now a.cut a.spans.now a.sets.now (cut-fine c.before.before.before.before) _ (sym c.before.before.before.read.ensures ∙ ap readingIn c.before.node.given.1)
+    asked_pattern a.table.now a.pattern.now a.heading.now a.cut a.spans.now a.sets.now (cut-fine c.before.before.before.before) _ (sym c.before.before.before.read.ensures ∙ ap reading_in c.before.node.given.1)
 
 returns-3 : tie.Need-returns-3
 returns-3 c =
     let a = c.before.before.before.before.before.before.before.before.before.before.before.before.before.before.args in
-    asked_heading a.table.now a.pattern.now a.heading.now a.cut a.spans.now a.sets.now (cut-fine c.before.before.before.before.before.before.before) (pattern-whole c.before.before.before.before) _ (sym c.before.before.before.read2.ensures ∙ ap readingIn c.before.node2.given.1)
+    asked_heading a.table.now a.pattern.now a.heading.now a.cut a.spans.now a.sets.now (cut-fine c.before.before.before.before.before.before.before) (pattern-whole c.before.before.before.before) _ (sym c.before.before.before.read2.ensures ∙ ap reading_in c.before.node2.given.1)
 
 returns-4 : tie.Need-returns-4
 returns-4 c =

@@ -5,7 +5,7 @@ use Prim.Native.Nat.{◌*◌}
 use native.Mathlib.Omega.{arith}
 use lib.ListN.{length}
 use borrow.Author.Tests.{lt-ltb, le-ltb}
-use Rattle.meaning.specs.Limits.{setWords}
+use Rattle.meaning.specs.Limits.{set_words_lem}
 use Rattle.meaning.specs.Refusals.{row, at0, row8}
 use Rattle.matches.proofs.Asked.{below_not}
 use Rattle.matches.proofs.has_room.Statement.{statement}
@@ -23,7 +23,7 @@ returns-2 : tie.Need-returns-2
 unfolding row8
 returns-2 c =
     let a = c.before.args in
-    rw (le-ltb (length a.spans.now) 128 (omega arith)) (ap (λ b. row 8 (at0 b)) (below_not (length a.sets.now) (setWords * length a.heading.now)))
+    rw (le-ltb (length a.spans.now) 128 (omega arith)) (ap (λ b. row 8 (at0 b)) (below_not (length a.sets.now) (set_words_lem * length a.heading.now)))
 
 pub has-room-spec : {M : Type 1} → statement M
 has-room-spec = tie.close (tie.spec returns mul-result returns-2)

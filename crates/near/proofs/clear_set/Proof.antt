@@ -5,7 +5,7 @@ use Prim.Native.Nat.{ℕ, ◌+◌, ◌-◌, ◌≤◌, ◌<◌}
 use native.Mathlib.Omega.{arith}
 use lib.ListN.{length, set, take, length-replicate}
 use lib.Seq.{take_all}
-use Rattle.meaning.specs.Limits.{setWords}
+use Rattle.meaning.specs.Limits.{set_words_lem}
 use Rattle.meaning.specs.Over.{over}
 use Rattle.meaning.specs.Calls.{zeros}
 use Rattle.meaning.proofs.Bits.{get_or_zeros}
@@ -14,10 +14,10 @@ use Rattle.near.proofs.clear_set.Statement.{statement}
 use Rattle.near.proofs.clear_set.Tie as tie
 
 abbrev invariant-loop : tie.invariant-loop
-invariant-loop near₀ at w₀ near w = (w ≤ setWords) × (length near ≡ length near₀) × (near ≡ over near₀ at (take w (zeros setWords)))
+invariant-loop near₀ at w₀ near w = (w ≤ set_words_lem) × (length near ≡ length near₀) × (near ≡ over near₀ at (take w (zeros set_words_lem)))
 
 abbrev decreases-loop : tie.decreases-loop
-decreases-loop near₀ at w₀ near w = setWords - w
+decreases-loop near₀ at w₀ near w = set_words_lem - w
 
 loop-holds : tie.Need-loop-init invariant-loop decreases-loop
 loop-holds c = (omega arith, refl, over_none _ _)
@@ -41,11 +41,11 @@ loop-again : tie.Need-loop-preserved invariant-loop decreases-loop
 loop-again c =
     let a = c.before.before.args in
     let w = c.before.loop.w in
-    let room : w < length (zeros setWords) = omega (arith, length-replicate {A = ℕ} setWords 0) in (
+    let room : w < length (zeros set_words_lem) = omega (arith, length-replicate {A = ℕ} set_words_lem 0) in (
       omega arith,
       search rules,
-      ap₂ (λ l v. set l (a.at + w) v) c.before.loop.invariant.2 (inv (get_or_zeros setWords w))
-          ∙ store_more a.near.now a.at (zeros setWords) w room (omega arith),
+      ap₂ (λ l v. set l (a.at + w) v) c.before.loop.invariant.2 (inv (get_or_zeros set_words_lem w))
+          ∙ store_more a.near.now a.at (zeros set_words_lem) w room (omega arith),
     )
 
 same_length : tie.Need-same-length invariant-loop decreases-loop
@@ -54,7 +54,7 @@ same_length c = search rules
 returns : tie.Need-returns invariant-loop decreases-loop
 returns c =
     let a = c.before.before.args in
-    c.before.loop.invariant.2 ∙ ap (over a.near.now a.at) (take_all c.before.loop.w (zeros setWords) (omega (arith, length-replicate {A = ℕ} setWords 0)))
+    c.before.loop.invariant.2 ∙ ap (over a.near.now a.at) (take_all c.before.loop.w (zeros set_words_lem) (omega (arith, length-replicate {A = ℕ} set_words_lem 0)))
 
 pub clear-set-spec : {M : Type 1} → statement M
 clear-set-spec =

@@ -5,7 +5,7 @@ use Prim.Native.Nat.{ℕ, ◌+◌, ◌-◌, ◌*◌}
 use native.Mathlib.Omega.{arith}
 use borrow.Rule.Slice.PartMut.{mid_len}
 use lib.ListN.{length, take, drop}
-use Rattle.near.specs.Near.{nearWords, OwnJoined, Joined}
+use Rattle.near.specs.Near.{near_words, OwnJoined, Joined}
 use Rattle.near.proofs.Laying.{part_back}
 use Rattle.near.proofs.Joining.{joined}
 use Rattle.near.proofs.join.Statement.{statement}
@@ -41,12 +41,12 @@ returns c =
     let s = met.before.before.before in
     let a = s.args in
     let near = a.near.now in
-    let at = nearWords * a.h in
+    let at = near_words * a.h in
     let own = met.join-own.new.0 in
-    let count : at + nearWords - at ≡ nearWords = omega arith in
-    let whole : length own ≡ nearWords = met.join-own.auto.0 ∙ mid_len at (at + nearWords) near (omega (arith, s.requires.0)) ∙ count in
+    let count : at + near_words - at ≡ near_words = omega arith in
+    let whole : length own ≡ near_words = met.join-own.auto.0 ∙ mid_len at (at + near_words) near (omega (arith, s.requires.0)) ∙ count in
     let joins = subst (λ (n : ℕ). OwnJoined a.k a.degree (take n (drop at near)) own) count met.join-own.ensures in
-    subst (Joined a.h a.k a.degree near) (inv (part_back near at nearWords own whole))
+    subst (Joined a.h a.k a.degree near) (inv (part_back near at near_words own whole))
     (joined near a.h a.k a.degree own s.requires.0 whole joins)
 
 pub join-spec : {M : Type 1} → statement M

@@ -7,20 +7,20 @@ use mathlib.Core.List.{List}
 use Prim.Native.Nat.{ℕ, ◌+◌, ◌*◌, ◌≤◌, ◌<◌, ◌-◌}
 use native.Mathlib.Omega.{arith}
 use lib.ListN.{length, get_or}
-use Rattle.meaning.specs.File.{pairCount, pair_at, tableIn}
-use Rattle.meaning.specs.Tables.{pairStart, lower_at, higher_at, degree_at}
+use Rattle.meaning.specs.File.{pair_count_lem, pair_at, table_in}
+use Rattle.meaning.specs.Tables.{pair_start, lower_at, higher_at, degree_at}
 use Rattle.meaning.proofs.Sound.{sound}
-use Rattle.table.specs.Read.{pairIn}
+use Rattle.table.specs.Read.{pair_in}
 use Rattle.table.proofs.Reading.{size_is, pair_inside}
-use Rattle.near.specs.Near.{nearWords}
+use Rattle.near.specs.Near.{near_words}
 use Rattle.near.proofs.Nearness.{NearTo, near_none, near_next, near_all, pair_symbols}
 use Rattle.near.proofs.near_sets.Statement.{statement}
 use Rattle.near.proofs.near_sets.Tie as tie
 
 abbrev invariant-loop : tie.invariant-loop
 invariant-loop file cut heading near₀ at₀ k₀ k-end near at k =
-    (k ≤ pairCount file)
-    × (at ≡ pairStart file k)
+    (k ≤ pair_count_lem file)
+    × (at ≡ pair_start file k)
     × (length near ≡ length near₀)
     × ((i : ℕ) → i < length heading → NearTo file cut k near (get_or heading i 0))
 
@@ -37,7 +37,7 @@ module _ (c : tie.After-open-sets invariant-loop decreases-loop) where
   abbrev fileAt : List ℕ
   fileAt = entry.args.file.now
 
-  room : nearWords * (tableIn fileAt).size ≤ length c.open-sets.new.1.0
+  room : near_words * (table_in fileAt).size ≤ length c.open-sets.new.1.0
   room = omega (arith, entry.pre.1.1.room, c.open-sets.auto.1.0)
 
 -- ---- the pair of a turn
@@ -46,14 +46,14 @@ module _ (c : tie.In-loop invariant-loop decreases-loop) where
   abbrev opened : tie.After-open-sets invariant-loop decreases-loop
   opened = c.before.before.before.before.before.before
 
-  below : c.before.loop.k < pairCount (fileAt opened)
+  below : c.before.loop.k < pair_count_lem (fileAt opened)
   below = omega (arith, c.before.before.pair-count.ensures)
 
-  inside : pairStart (fileAt opened) c.before.loop.k + 6 ≤ length (fileAt opened)
+  inside : pair_start (fileAt opened) c.before.loop.k + 6 ≤ length (fileAt opened)
   inside = pair_inside (fileAt opened) (entry opened).pre.0.0 c.before.loop.k below
 
 pair_is : (c : tie.After-pair-from invariant-loop decreases-loop)
-    → let file = fileAt (opened c.before.before) in pairIn c.pair-from.result ≡ pair_at file (pairStart file c.before.before.before.loop.k)
+    → let file = fileAt (opened c.before.before) in pair_in c.pair-from.result ≡ pair_at file (pair_start file c.before.before.before.loop.k)
 pair_is c = c.pair-from.ensures ∙ ap (pair_at (fileAt (opened c.before.before))) c.before.before.before.loop.invariant.1
 
 open-sets-requires : tie.Need-open-sets-requires invariant-loop decreases-loop
@@ -82,7 +82,7 @@ loop-holds c =
     let first = c.before.before.before.before in
     let s = entry first in
     let file = fileAt first in
-    let size : c.before.symbol-count.result ≡ (tableIn file).size = c.before.symbol-count.ensures.0 in (
+    let size : c.before.symbol-count.result ≡ (table_in file).size = c.before.symbol-count.ensures.0 in (
       omega arith,
       omega (arith, size_is file s.pre.0.0),
       refl,
@@ -141,7 +141,7 @@ returns c = λ i l.
     let first = c.before.before.before.before.before.before in
     let start = entry first in
     let file = fileAt first in
-    let e : c.before.loop.k ≡ pairCount file = omega arith in
+    let e : c.before.loop.k ≡ pair_count_lem file = omega arith in
     near_all file start.args.cut start.pre.0.0 start.pre.0.1 start.pre.0.2 _ _ (start.pre.1.0 i l) (rw e at (c.before.loop.invariant.3 i l))
 
 pub near-sets-spec : {M : Type 1} → statement M

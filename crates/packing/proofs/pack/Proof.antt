@@ -9,9 +9,9 @@ use native.Mathlib.Omega.{arith}
 use lib.ListN.{length, get_or, take}
 use lib.Seq.{length-take-le}
 use Rattle.theory.specs.Stands.{size_of}
-use Rattle.meaning.specs.Limits.{setWords, variableCount, spanWidth}
-use Rattle.meaning.specs.File.{tableIn}
-use Rattle.meaning.specs.Calls.{zeros, facesIn}
+use Rattle.meaning.specs.Limits.{set_words_lem, variable_count, span_width}
+use Rattle.meaning.specs.File.{table_in}
+use Rattle.meaning.specs.Calls.{zeros, faces_in}
 use Rattle.near.specs.Near.{NearSets}
 use Rattle.terms.specs.Kinds.{kind_of}
 use Rattle.terms.specs.declared.kind.Kind.{Kind}
@@ -36,7 +36,7 @@ invariant-loop table pattern heading near index₀ notes own₀ least spans₀ s
     × (length sets ≡ length sets₀)
     × Index table index
     × ((cut : ℕ) → Packable table pattern heading cut notes → NearWhere table pattern heading cut near
-    → PackedAlong table pattern heading cut i (length spans₀ - spanWidth * variableCount) sets₀ search spans sets)
+    → PackedAlong table pattern heading cut i (length spans₀ - span_width * variable_count) sets₀ search spans sets)
 
 abbrev decreases-loop : tie.decreases-loop
 decreases-loop table pattern heading near index₀ notes own₀ least spans₀ sets₀ symbols search₀ i₀ i-end index own spans sets search i =
@@ -59,7 +59,7 @@ loop-holds : tie.Need-loop-init invariant-loop decreases-loop
 loop-holds c =
     let start = c.before.before.before.before.before.before.before.before.before.before in
     let all = length start.args.spans.now in
-    let n : all ≡ spanWidth * variableCount + (all - spanWidth * variableCount) = omega (arith, start.requires.0.1.of_spans) in
+    let n : all ≡ span_width * variable_count + (all - span_width * variable_count) = omega (arith, start.requires.0.1.of_spans) in
     (omega arith, refl, refl, refl, refl, start.requires.0.0, λ cut k w. searched_none _ _ _ _ _ _ start.requires.1.0 (start.requires.1.1.0 ∙ ap zeros n))
 
 mul-kind-of : tie.Need-overflow-mul-kind-of invariant-loop decreases-loop
@@ -78,7 +78,7 @@ enum-known-v c = search rules
 abbrev kind_at : tie.In-loop invariant-loop decreases-loop → Kind
 kind_at c =
     let a = (entry c).args in
-    kind_of (tableIn a.table.now).size (get_or a.pattern.now c.before.loop.i 0)
+    kind_of (table_in a.table.now).size (get_or a.pattern.now c.before.loop.i 0)
 
 kind-is : (c : tie.After-kind-of invariant-loop decreases-loop) → c.kind-of.result ≡ kind_at c.before.before
 kind-is c =
@@ -117,7 +117,7 @@ abbrev New : tie.In-loop invariant-loop decreases-loop → ℕ → Type 0
 New c v =
     let a = (entry c).args in
     let loop = c.before.loop in
-    NewAt (tableIn a.table.now) (facesIn a.table.now a.pattern.now a.heading.now) (length a.heading.now) loop.i v loop.search.packed
+    NewAt (table_in a.table.now) (faces_in a.table.now a.pattern.now a.heading.now) (length a.heading.now) loop.i v loop.search.packed
 
 is-new : (c : tie.Then1 invariant-loop decreases-loop) → New c.before.before.before.before.before.before.before c.before.before.before.v.given.0.0
 is-new c =
@@ -128,7 +128,7 @@ is-new c =
 -- .. so the near sets are gathered
 near-here : (c : tie.Then1 invariant-loop decreases-loop) (cut : ℕ)
     → let a = (entry c.before.before.before.before.before.before.before).args in
-    NearWhere a.table.now a.pattern.now a.heading.now cut a.near.now → NearSets (tableIn a.table.now) cut a.heading.now a.near.now
+    NearWhere a.table.now a.pattern.now a.heading.now cut a.near.now → NearSets (table_in a.table.now) cut a.heading.now a.near.now
 near-here c cut w =
     let turn = c.before.before.before.before.before.before.before in
     w.gathered turn.before.loop.i turn.loop-test.true (omega (arith, (variable_kind _ _ _ (is-variable c.before.before)).0))
@@ -168,7 +168,7 @@ fits-here c =
 -- so many words as are packed stand in the sets
 room-here : (c : tie.After-gather invariant-loop decreases-loop)
     → let turn = c.before.before.before.before.before.before.before.before.before in
-    setWords * turn.before.loop.search.packed + setWords * size_of (take (2 * c.gather.result) c.gather.new.1.1.1.0) 0 ≤ length turn.before.loop.sets
+    set_words_lem * turn.before.loop.search.packed + set_words_lem * size_of (take (2 * c.gather.result) c.gather.new.1.1.1.0) 0 ≤ length turn.before.loop.sets
 room-here c =
     let turn = c.before.before.before.before.before.before.before.before.before in
     omega (arith, fits-here c, (entry turn).requires.0.1.of_sets, turn.before.loop.invariant.4)
@@ -211,7 +211,7 @@ pack-variable-requires c κs =
     let gathered = c.before.before.before.before.before.before.before.before in
     let turn = gathered.before.before.before.before.before.before.before.before.before in
     let room = room-here gathered in
-    (((given (entry turn)).packable.sound, turn.before.loop.invariant.5, notes-here gathered), omega (arith, room, rest_long turn.before.loop.sets (setWords * turn.before.loop.search.packed) (omega arith)))
+    (((given (entry turn)).packable.sound, turn.before.loop.invariant.5, notes-here gathered), omega (arith, room, rest_long turn.before.loop.sets (set_words_lem * turn.before.loop.search.packed) (omega arith)))
 
 note-variable-requires : tie.Need-note-variable-requires invariant-loop decreases-loop
 note-variable-requires c κs =

@@ -3,7 +3,7 @@ use borrow.Author.Rules.{rules}
 use Prim.Native.Nat.{◌*◌}
 use native.Mathlib.Omega.{arith}
 use lib.ListN.{length-set}
-use Rattle.meaning.specs.Limits.{spanWidth}
+use Rattle.meaning.specs.Limits.{span_width}
 use Rattle.meaning.proofs.Over.{over_four}
 use Rattle.packing.proofs.put_span.Statement.{statement}
 use Rattle.packing.proofs.put_span.Tie as tie
@@ -50,7 +50,7 @@ same_length c = search rules
 returns : tie.Need-returns
 returns c =
     let a = c.args in
-    over_four a.spans.now (spanWidth * a.v) a.first a.positions a.lowest a.highest (omega arith)
+    over_four a.spans.now (span_width * a.v) a.first a.positions a.lowest a.highest (omega arith)
 
 pub put-span-spec : {M : Type 1} → statement M
 put-span-spec =

@@ -48,7 +48,7 @@ use denote.Triple.Spec.{Meets, triple_of}
 use denote.Triple.Table.{entered, cited}
 use denote.Triple.Walked.{says, needs, Stays, stay_none, stay_none_slice, stay_slice, walk_of, Goes-none, Goes-none_slice, Goes-slice, Walks, ends_at, walked, walk_Meets}
 use denote.Exit.{yes as stays-yes}
-use Rattle.meaning.specs.File.{numbersOf}
+use Rattle.meaning.specs.File.{numbers_of_lem}
 use Rattle.meaning.specs.Over.{over}
 use Rattle.meaning.proofs.Over.{over_none}
 use Rattle.table.specs.declared.read.Pair.{Pair}
@@ -143,7 +143,7 @@ module _ {M : Type 1} {𝓤 : Ura M} (𝓛 : Logic 𝓤) (mem' : Memory → SPro
 
   -- the numbers once the first k records are put
   abbrev put-to : ℕ → List ℕ
-  put-to k = over zs₀ 0 (numbersOf (take k (listed ys)))
+  put-to k = over zs₀ 0 (numbers_of_lem (take k (listed ys)))
 
   exits : count < 2 ^ 64 → (zs : List ℕ) → length zs ≡ m → zs ≡ put-to count → ent 𝓤 (⋆ 𝓛 (‵ (flft κ₁ q₁) ∷ ‵ (flft κ q) ∷ ‵ (OwnN zs m) ∷ ‵ OwnP ∷ [])) (Post vunit)
   exits gc zs lz e =
@@ -290,7 +290,7 @@ module _ {M : Type 1} {𝓤 : Ura M} (𝓛 : Logic 𝓤) (mem' : Memory → SPro
             ends k zs _ (omega arith) h.1 (h.2 ∙ ap put-to e)
 
     begins : ent 𝓤 (⋆ 𝓛 (At (0, zs₀))) (Wp 𝓤 H C Λ En (loop mir'.turn-1) Left)
-    unfolding numbersOf
+    unfolding numbers_of_lem
     begins = loops 𝓛 𝓣 En mir'.turn-1 Left At Kept left turns (0, zs₀) (omega arith, refl, over_none zs₀ 0)
 
   walk : (𝓣 : Tables 𝓤 H) → FmC 𝓤 H 𝓛.laws 𝓣.C → Triple 𝓤 (𝓣.C #records·put-three) (Put 𝓛 mem' run) → Room R n → Room u16 m → count < 2 ^ 64 → Asked ys count zs₀

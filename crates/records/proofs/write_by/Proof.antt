@@ -43,10 +43,10 @@ use denote.Triple.Table.{entered, cited}
 use denote.Triple.Walked.{says, needs, Stays, stay_none_slice, stay_slice, walk_of, Goes-none_slice, Goes-slice, Walks, ends_at, walked, walk_Meets}
 use denote.Exit.{yes as stays-yes}
 use Rattle.theory.specs.Pairs.{Pair as ListedPair}
-use Rattle.meaning.specs.Limits.{mostPairs}
-use Rattle.meaning.specs.File.{numbersOf}
+use Rattle.meaning.specs.Limits.{most_pairs}
+use Rattle.meaning.specs.File.{numbers_of_lem}
 use Rattle.meaning.specs.Over.{over}
-use Rattle.meaning.specs.Calls.{written, laterOutput}
+use Rattle.meaning.specs.Calls.{written, later_output}
 use Rattle.table.specs.declared.read.Pair.{Pair}
 use Rattle.table.specs.contracts.read.Pair as T
 use Rattle.writer.specs.Said.{said}
@@ -123,7 +123,7 @@ stayed = (stay_slice (0 ∷ []) tt (plain (λ _. u16)), (stay_none_slice (1 ∷ 
 
 -- what is asked: the numbers of so many records as a table may have have room
 abbrev Asked : List Pair → List ℕ → Type 0
-Asked ys ns = length ys ≤ mostPairs → 3 * length ys ≤ length ns
+Asked ys ns = length ys ≤ most_pairs → 3 * length ys ≤ length ns
 
 -- the contracts that the proof cites
 module _ {M : Type 1} {𝓤 : Ura M} (𝓛 : Logic 𝓤) (mem' : Memory → SProp 𝓤) (run : Routine → Fun 𝓤) where
@@ -267,13 +267,13 @@ module _ {M : Type 1} {𝓤 : Ura M} (𝓛 : Logic 𝓤) (mem' : Memory → SPro
   fits_said c = ex_e 𝓤 _ (λ ws. snd∗ 𝓤 (sem 𝓛 (lasts fit'.ended tt (m₀, (n, tt)) ws)) (fact 𝓤 (Fitting c)))
 
   abbrev Copied : ℕ → List ℕ → Type 0
-  Copied c ns = ns ≡ over ns₀ 0 (numbersOf (take c (listed ys)))
+  Copied c ns = ns ≡ over ns₀ 0 (numbers_of_lem (take c (listed ys)))
 
   abbrev Answered : List ℕ → Writing → Type 0
   Answered ns r = (ps : List ListedPair) → length ps ≡ n → Laid ns ps → said r ≡ written ar ps zs₀
 
   abbrev Left : List ℕ → List ℕ → Type 0
-  Left ns zs = (ps : List ListedPair) → length ps ≡ n → Laid ns ps → zs ≡ laterOutput ar ps zs₀
+  Left ns zs = (ps : List ListedPair) → length ps ≡ n → Laid ns ps → zs ≡ later_output ar ps zs₀
 
   module _ (𝓣 : Tables 𝓤 H) (fm : FmC 𝓤 H 𝓛.laws 𝓣.C) (known : Known 𝓛 mem' run 𝓣) (gm₀ : Room u16 m₀) (ga : Room u8 (length ar)) (gn : Room R n) (gm : Room u8 m) (asked : Asked ys ns₀) (l₀ l₁ l₂ l₃ l₄ l₅ l₆ l₇ l₈ l₉ l₁₀ l₁₁ l₁₂ l₁₃ l₁₄ : ℕ) where
     abbrev C : Calls 𝓤 H
@@ -310,7 +310,7 @@ module _ {M : Type 1} {𝓤 : Ura M} (𝓛 : Logic 𝓤) (mem' : Memory → SPro
         use2 𝓛 (later (some (λ (ε : GName). ‵ (LentO μ ε) ⊛ ‵ (LentAgain u8 κ₂ (μ ∷ []) q₂ γ₂ b₂ o₂ ε zs₀)))) (lends_again u8 κ₂ (μ ∷ []) q₂ γ₂ b₂ o₂ 𝓛 (named 3) (named 2) zs₀) $ await ! tt $ pick ! (λ ε. split ! $
         -- [the output; its lender's part; its token; the numbers; their lender's part; their token; what the arities own, twice; _0; ..; _14; the arities' token; the records'; what they own; ..]
         move ! (5 ∷ 2 ∷ []) $ join ! $ move ! (22 ∷ 0 ∷ []) $ join ! $ move ! (3 ∷ 1 ∷ []) $ join ! $ move ! (4 ∷ 0 ∷ []) $ join ! $
-        move ! (1 ∷ 0 ∷ []) $ use2 𝓛 (raw ((Write 𝓛 mem' run).pre (to_write ν μ δ ε ns))) (goes-write ν μ δ ε ns gn.0 (subst (λ k. n ≤ mostPairs → 3 * n ≤ k) (sym ln) asked)) $
+        move ! (1 ∷ 0 ∷ []) $ use2 𝓛 (raw ((Write 𝓛 mem' run).pre (to_write ν μ δ ε ns))) (goes-write ν μ δ ε ns gn.0 (subst (λ k. n ≤ most_pairs → 3 * n ≤ k) (sym ln) asked)) $
         -- [what is asked; the output's lender's part; the numbers'; what the arities own; _0; ..; _14; the records' token; what they own; ..]
         calls_at ! fm (Write 𝓛 mem' run) known.2 (to_write ν μ δ ε ns)
         (and_then ! (load ! (from ! (stop !)) (look ! 6 refl)) (and_then ! (load ! (from ! (stop !)) (look ! 16 refl)) (and_then ! (load ! (from ! (stop !)) (look ! 10 refl)) (and_then ! (load ! (from ! (stop !)) (look ! 18 refl)) (no_more !))))) (λ v.

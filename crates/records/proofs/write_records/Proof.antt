@@ -44,7 +44,7 @@ use denote.Triple.Spec.{Meets, triple_of}
 use denote.Triple.Table.{entered, cited}
 use denote.Triple.Walked.{says, Stays, stay_none_slice, stay_slice, walk_of, Goes-none_slice, Goes-slice, Walks, ends_at, walked, walk_Meets}
 use denote.Exit.{yes as stays-yes}
-use Rattle.meaning.specs.Limits.{mostPairs}
+use Rattle.meaning.specs.Limits.{most_pairs}
 use Rattle.table.specs.declared.read.Pair.{Pair}
 use Rattle.table.specs.contracts.read.Pair as T
 use Rattle.writer.specs.declared.Writing.{Writing}
@@ -180,7 +180,7 @@ module _ {M : Type 1} {𝓤 : Ura M} (𝓛 : Logic 𝓤) (mem' : Memory → SPro
       move ! (1 ∷ 0 ∷ []) $ frame ! $ frame ! $ owned ! B (Is B) (EL.makes E.the_type E'.the_plain 𝓛) r (v ∷ []) is $ done !
 
   -- ---- the call, with an array of k numbers that stands at l
-  module _ (𝓣 : Tables 𝓤 H) (fm : FmC 𝓤 H 𝓛.laws 𝓣.C) (known : Triple 𝓤 (𝓣.C #records·write-by) (By 𝓛 mem' run)) (gm : Room u8 m) (k l : ℕ) (room : Room u16 k) (asked : n ≤ mostPairs → 3 * n ≤ k) where
+  module _ (𝓣 : Tables 𝓤 H) (fm : FmC 𝓤 H 𝓛.laws 𝓣.C) (known : Triple 𝓤 (𝓣.C #records·write-by) (By 𝓛 mem' run)) (gm : Room u8 m) (k l : ℕ) (room : Room u16 k) (asked : n ≤ most_pairs → 3 * n ≤ k) where
     abbrev C : Calls 𝓤 H
     C = 𝓣.C
 
@@ -206,7 +206,7 @@ module _ {M : Type 1} {𝓤 : Ura M} (𝓛 : Logic 𝓤) (mem' : Memory → SPro
     abbrev to-by : ℕ → ℕ → GName → GName → (By 𝓛 mem' run).Ghost
     to-by ν μ δ ε = (((ν ∷ [], (κ₁, (κ, (μ ∷ [], tt)))), (full_share, (q₁, (q, (full_share, tt)))), tt, given_by δ ε, (valN ∷ [], (val_a ∷ [], (val_p ∷ [], (val_o ∷ [], tt))))), tt)
 
-    has_room : n ≤ mostPairs → 3 * n ≤ length (replicate {A = ℕ} k 1)
+    has_room : n ≤ most_pairs → 3 * n ≤ length (replicate {A = ℕ} k 1)
     has_room h = omega (arith, asked h, length-replicate {A = ℕ} k 1)
 
     goes_by : (ν μ : ℕ) (δ ε : GName)

@@ -4,9 +4,9 @@ use mathlib.Core.Path.{◌≡◌, refl, ◌∙◌}
 use Prim.Native.Nat.{◌-◌, ◌≤◌}
 use native.Mathlib.Omega.{arith}
 use lib.ListN.{length, take, length-set}
-use Rattle.meaning.specs.Limits.{setWords}
+use Rattle.meaning.specs.Limits.{set_words_lem}
 use Rattle.meaning.specs.Calls.{zeros}
-use Rattle.meaning.specs.Saved.{widenedSet}
+use Rattle.meaning.specs.Saved.{widened_set}
 use Rattle.meaning.specs.Over.{over}
 use Rattle.meaning.proofs.Over.{over_none}
 use Rattle.saved.proofs.Widening.{word_more, all_words}
@@ -14,13 +14,13 @@ use Rattle.saved.proofs.saved_set.Statement.{statement}
 use Rattle.saved.proofs.saved_set.Tie as tie
 
 abbrev invariant-loop : tie.invariant-loop
-invariant-loop words position set₀ w₀ set w = (w ≤ setWords) × (length set ≡ setWords) × (set ≡ over (zeros setWords) 0 (take w (widenedSet words position)))
+invariant-loop words position set₀ w₀ set w = (w ≤ set_words_lem) × (length set ≡ set_words_lem) × (set ≡ over (zeros set_words_lem) 0 (take w (widened_set words position)))
 
 abbrev decreases-loop : tie.decreases-loop
-decreases-loop words position set₀ w₀ set w = setWords - w
+decreases-loop words position set₀ w₀ set w = set_words_lem - w
 
 loop-holds : tie.Need-loop-init invariant-loop decreases-loop
-loop-holds c = (omega arith, refl, over_none (zeros setWords) 0)
+loop-holds c = (omega arith, refl, over_none (zeros set_words_lem) 0)
 
 saved-word-requires : tie.Need-saved-word-requires invariant-loop decreases-loop
 saved-word-requires c κs = search rules

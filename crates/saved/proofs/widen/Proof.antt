@@ -5,9 +5,9 @@ use mathlib.Core.List.{List}
 use Prim.Native.Nat.{ℕ, ◌*◌, ◌/◌, ◌-◌, ◌≤◌}
 use native.Mathlib.Omega.{arith}
 use lib.ListN.{length}
-use Rattle.meaning.specs.Limits.{setWords}
+use Rattle.meaning.specs.Limits.{set_words_lem}
 use Rattle.meaning.specs.Packing.{through}
-use Rattle.meaning.specs.Saved.{savedWords, widenedSet}
+use Rattle.meaning.specs.Saved.{saved_words, widened_set}
 use Rattle.meaning.specs.Over.{over}
 use Rattle.meaning.proofs.Over.{over_none}
 use Rattle.saved.proofs.Widening.{uneven, short, set_more, all_put}
@@ -16,7 +16,7 @@ use Rattle.saved.proofs.widen.Tie as tie
 
 abbrev invariant-loop : tie.invariant-loop
 invariant-loop words output₀ position₀ position-end output position =
-    (position ≤ length words / savedWords) × (length output ≡ length output₀) × (output ≡ over output₀ 0 (through position (widenedSet words)))
+    (position ≤ length words / saved_words) × (length output ≡ length output₀) × (output ≡ over output₀ 0 (through position (widened_set words)))
 
 abbrev decreases-loop : tie.decreases-loop
 decreases-loop words output₀ position₀ position-end output position = position-end - position
@@ -53,7 +53,7 @@ loop-again c =
       omega arith,
       search rules,
       c.before.before.put.ensures
-          ∙ ap₂ (λ (out xs : List ℕ). over out (setWords * loop.position) xs) loop.invariant.2 set.ensures
+          ∙ ap₂ (λ (out xs : List ℕ). over out (set_words_lem * loop.position) xs) loop.invariant.2 set.ensures
           ∙ set_more a.words.now a.output.now (omega arith) (omega arith) loop.position (omega arith),
     )
 
@@ -67,9 +67,9 @@ returns-3 : tie.Need-returns-3 invariant-loop decreases-loop
 returns-3 c =
     let a = c.before.before.before.before.before.before.args in
     let loop = c.before.loop in
-    let all : loop.position ≡ length a.words.now / savedWords = omega arith in
+    let all : loop.position ≡ length a.words.now / saved_words = omega arith in
     all_put a.words.now a.output.now (omega arith) (omega arith) loop.output
-    (loop.invariant.2 ∙ ap (λ (n : ℕ). over a.output.now 0 (through n (widenedSet a.words.now))) all)
+    (loop.invariant.2 ∙ ap (λ (n : ℕ). over a.output.now 0 (through n (widened_set a.words.now))) all)
 
 pub widen_spec : {M : Type 1} → statement M
 widen_spec =

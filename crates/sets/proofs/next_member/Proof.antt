@@ -6,17 +6,17 @@ use mir.Syntax.{w64}
 use mir.Val.{Fits}
 use lib.Count.{trailing_le}
 use lib.ListN.{get_or}
-use Rattle.meaning.specs.Limits.{word_bits, setWords, setRoom}
+use Rattle.meaning.specs.Limits.{word_bits, set_words_lem, set_room}
 use Rattle.sets.specs.Words.{NoneBetween}
 use Rattle.sets.proofs.Next.{rest_at, pass_word, found_in_word}
 use Rattle.sets.proofs.next_member.Statement.{statement}
 use Rattle.sets.proofs.next_member.Tie as tie
 
 abbrev invariant-loop : tie.invariant-loop
-invariant-loop words from end k₀ k = (from ≤ k) × (k ≤ setRoom) × NoneBetween words from k
+invariant-loop words from end k₀ k = (from ≤ k) × (k ≤ set_room) × NoneBetween words from k
 
 abbrev decreases-loop : tie.decreases-loop
-decreases-loop words from end k₀ k = setRoom - k
+decreases-loop words from end k₀ k = set_room - k
 
 loop-holds : tie.Need-loop-init invariant-loop decreases-loop
 loop-holds c = (omega arith, omega arith, λ k l m. absurd (omega arith))
@@ -49,7 +49,7 @@ returns c =
     let a = c.before.before.before.before.before.args in
     let loop = c.before.before.before.before.loop in
     let word : Fits w64 (get_or a.words.now (loop.k / word_bits) 0) = search rules in
-    let found = found_in_word a.words.now a.from loop.k setWords word.fits (omega arith) (omega arith) (omega (arith, c.if1.true)) loop.invariant.2 in
+    let found = found_in_word a.words.now a.from loop.k set_words_lem word.fits (omega arith) (omega arith) (omega (arith, c.if1.true)) loop.invariant.2 in
     record { not_below = found.not_below; room = found.room; none = found.none; is = λ l. found.is (omega arith) }
 
 add-k : tie.Need-overflow-add-k invariant-loop decreases-loop

@@ -9,13 +9,13 @@ use Prim.Native.Nat.{◌+◌, ◌-◌, ◌*◌, ◌≤◌, ◌<◌}
 use native.Mathlib.Numerals.{add-one}
 use native.Mathlib.Omega.{arith}
 use lib.ListN.{length}
-use Rattle.theory.specs.Least.{leastBelow}
-use Rattle.meaning.specs.File.{symbolCount, pairCount, aritiesIn, pairsIn}
-use Rattle.meaning.specs.Tables.{pairStart}
-use Rattle.meaning.specs.Refusals.{row, row4, badPair}
+use Rattle.theory.specs.Least.{least_below}
+use Rattle.meaning.specs.File.{symbol_count_lem, pair_count_lem, arities_in, pairs_in}
+use Rattle.meaning.specs.Tables.{pair_start}
+use Rattle.meaning.specs.Refusals.{row, row4, bad_pair_lem}
 use Rattle.meaning.proofs.First.{least_on, least_at}
 use Rattle.meaning.proofs.Sound.{length-pairs_in}
-use Rattle.table.specs.Keys.{keyBefore}
+use Rattle.table.specs.Keys.{key_before_lem}
 use Rattle.table.proofs.Pairs.{key_next, good_read}
 use Rattle.sound.proofs.InFile.{as_many}
 use Rattle.sound.proofs.bad_pair.Statement.{statement}
@@ -23,7 +23,7 @@ use Rattle.sound.proofs.bad_pair.Tie as tie
 
 abbrev invariant-loop : tie.invariant-loop
 invariant-loop file arities pairs k₀ at₀ previous₀ k at previous =
-    (k ≤ pairs) × (at ≡ pairStart file k) × (previous ≡ keyBefore (pairsIn file) k) × (leastBelow k (badPair (aritiesIn file) (pairsIn file)) ≡ none)
+    (k ≤ pairs) × (at ≡ pair_start file k) × (previous ≡ key_before_lem (pairs_in file) k) × (least_below k (bad_pair_lem (arities_in file) (pairs_in file)) ≡ none)
 
 abbrev decreases-loop : tie.decreases-loop
 decreases-loop file arities pairs k₀ at₀ previous₀ k at previous = pairs - k
@@ -31,14 +31,14 @@ decreases-loop file arities pairs k₀ at₀ previous₀ k at previous = pairs -
 -- whether the pair may follow is whether it is good
 told : (c : tie.After-may-follow invariant-loop decreases-loop)
     → let f = c.before.before.before.before.before.before.before.before.before.before.args.file.now in
-    c.may-follow.result ≡ not (badPair (aritiesIn f) (pairsIn f) c.before.before.before.before.before.loop.k)
+    c.may-follow.result ≡ not (bad_pair_lem (arities_in f) (pairs_in f) c.before.before.before.before.before.loop.k)
 told c =
     let start = c.before.before.before.before.before.before.before.before.before.before in
     let head = c.before.before.before.before.before.loop in
     rw (c.may-follow.ensures, start.requires.0, c.before.before.before.number_at.ensures, c.before.before.number-at2.ensures, c.before.number-at3.ensures, head.invariant.1, head.invariant.2)
     (good_read start.args.file.now (λ j. (c.before.before.before.before.before.before.before.before.before.shared-slice-known.given j).fits) head.k (omega arith))
 
-counted : (c : tie.After-good-until invariant-loop decreases-loop) → length c.before.before.before.args.arities.now ≡ symbolCount c.before.before.before.args.file.now
+counted : (c : tie.After-good-until invariant-loop decreases-loop) → length c.before.before.before.args.arities.now ≡ symbol_count_lem c.before.before.before.args.file.now
 counted c = let start = c.before.before.before in as_many start.args.file.now start.args.arities.now start.requires.0 (omega arith)
 
 good-until-requires : tie.Need-good-until-requires invariant-loop decreases-loop
@@ -85,9 +85,9 @@ unfolding row4
 returns c =
     let f = c.before.before.before.before.before.before.before.before.before.before.before.args.file.now in
     let k = c.before.before.before.before.before.before.loop.k in
-    let bad = badPair (aritiesIn f) (pairsIn f) in
+    let bad = bad_pair_lem (arities_in f) (pairs_in f) in
     let is-bad : bad k ≡ true = not-false (bad k) (sym (told c.before) ∙ not_true _ c.if1.true) in
-    ap (row 4) (least_at bad k (length (pairsIn f)) c.before.before.before.before.before.before.loop.invariant.3 is-bad (omega (arith, length-pairs_in f)))
+    ap (row 4) (least_at bad k (length (pairs_in f)) c.before.before.before.before.before.before.loop.invariant.3 is-bad (omega (arith, length-pairs_in f)))
 
 key-requires : tie.Need-key-requires invariant-loop decreases-loop
 key-requires c κs = search rules
@@ -106,8 +106,8 @@ loop-again c =
     let f = c.before.before.before.before.before.before.before.before.before.before.before.before.args.file.now in
     let k = c.before.before.before.before.before.before.before.loop.k in
     let i = c.before.before.before.before.before.before.before.loop.invariant in
-    let l : k < pairCount f = omega arith in
-    let bad = badPair (aritiesIn f) (pairsIn f) in
+    let l : k < pair_count_lem f = omega arith in
+    let bad = bad_pair_lem (arities_in f) (pairs_in f) in
     let is-good : bad k ≡ false = not_true (bad k) (sym (told c.before.before) ∙ not-false _ c.before.if1.false) in (
       omega arith,
       omega arith,
@@ -120,8 +120,8 @@ unfolding row4
 returns-2 c =
     let f = c.before.before.before.before.before.before.args.file.now in
     let k = c.before.loop.k in
-    let e : length (pairsIn f) ≡ k = omega (arith, length-pairs_in f) in
-    ap (row 4) (ap (λ n. leastBelow n (badPair (aritiesIn f) (pairsIn f))) e ∙ c.before.loop.invariant.3)
+    let e : length (pairs_in f) ≡ k = omega (arith, length-pairs_in f) in
+    ap (row 4) (ap (λ n. least_below n (bad_pair_lem (arities_in f) (pairs_in f))) e ∙ c.before.loop.invariant.3)
 
 pub bad-pair-spec : {M : Type 1} → statement M
 bad-pair-spec =

@@ -6,8 +6,8 @@ use mathlib.Core.Bool.{not}
 use mathlib.Core.Option.{none}
 use native.Mathlib.Omega.{arith}
 use lib.ListN.{length}
-use Rattle.meaning.specs.File.{symbolCount, pairCount}
-use Rattle.meaning.specs.Refusals.{row, at0, row1_short, row1_offsets, row2, tableRows}
+use Rattle.meaning.specs.File.{symbol_count_lem, pair_count_lem}
+use Rattle.meaning.specs.Refusals.{row, at0, row1_short, row1_offsets, row2, table_rows}
 use Rattle.table.proofs.Rows.{placed_length}
 use Rattle.sound.proofs.check.Statement.{statement}
 use Rattle.sound.proofs.check.Tie as tie
@@ -15,12 +15,12 @@ use Rattle.sound.proofs.check.Tie as tie
 -- row 2, once the counts are tested, and where they have passed
 counts-told : (c : tie.After-allowed)
     → let f = c.before.before.before.before.before.args.file.now in
-    row2 (symbolCount f) (pairCount f) ≡ row 2 (at0 (not c.allowed.result))
+    row2 (symbol_count_lem f) (pair_count_lem f) ≡ row 2 (at0 (not c.allowed.result))
 counts-told c = ap₂ row2 (sym c.before.before.number_at.ensures) (sym c.before.number-at2.ensures) ∙ c.allowed.ensures
 
 counts-fine : (c : tie.Else2)
     → let f = c.before.before.before.before.before.before.args.file.now in
-    row2 (symbolCount f) (pairCount f) ≡ row 2 none
+    row2 (symbol_count_lem f) (pair_count_lem f) ≡ row 2 none
 counts-fine c = counts-told c.before ∙ ap (λ b. row 2 (at0 b)) c.if2.false
 
 -- row 1, where the offsets have passed
@@ -28,7 +28,7 @@ placed-fine : (c : tie.Else3) → row1_offsets c.before.before.before.before.bef
 placed-fine c = c.before.well-placed.ensures ∙ ap (λ b. row 1 (at0 b)) c.if3.false
 
 returns : tie.Need-returns
-unfolding tableRows row1_short
+unfolding table_rows row1_short
 returns c =
     let f = c.before.before.args.file.now in
     rw (lt-ltb (length f) 10 (omega arith))
@@ -49,7 +49,7 @@ allowed-requires : tie.Need-allowed-requires
 allowed-requires c κs = search rules
 
 returns-2 : tie.Need-returns-2
-unfolding tableRows row1_short
+unfolding table_rows row1_short
 returns-2 c =
     let f = c.before.before.before.before.before.before.args.file.now in
     rw (le-ltb (length f) 10 (omega arith), counts-told c.before, c.if2.true)
@@ -58,7 +58,7 @@ well-placed-requires : tie.Need-well-placed-requires
 well-placed-requires c κs = search rules
 
 returns-3 : tie.Need-returns-3
-unfolding tableRows row1_short
+unfolding table_rows row1_short
 returns-3 c =
     let f = c.before.before.before.before.before.before.before.before.args.file.now in
     rw (le-ltb (length f) 10 (omega arith), counts-fine c.before.before, c.before.well-placed.ensures, c.if3.true)
@@ -69,7 +69,7 @@ check-lists-requires c κs =
     (c.before.before.before.before.before.number_at.ensures, c.before.before.before.before.number-at2.ensures, omega arith)
 
 returns-4 : tie.Need-returns-4
-unfolding tableRows row1_short
+unfolding table_rows row1_short
 returns-4 c =
     let f = c.before.before.before.before.before.before.before.before.before.args.file.now in
     rw (le-ltb (length f) 10 (omega arith), counts-fine c.before.before.before, placed-fine c.before) c.check-lists.ensures

@@ -5,7 +5,7 @@ use mathlib.Core.List.{[], ◌∷◌}
 use mathlib.Core.Option.{none, some as just}
 use Prim.Native.Nat.{ℕ, ◌<◌}
 use native.Mathlib.Omega.{arith}
-use Rattle.meaning.specs.File.{number, aritiesIn, pairsIn}
+use Rattle.meaning.specs.File.{number, arities_in, pairs_in}
 use Rattle.meaning.specs.Refusals.{row, row3, row4, first}
 use Rattle.meaning.proofs.Sound.{length-pairs_in}
 use Rattle.table.specs.Places.{place_in}
@@ -19,21 +19,21 @@ small : (c : tie.After-shared-slice-known) (i : ℕ) → number c.before.args.fi
 small c i = number_small c.before.args.file.now (λ j. (c.shared-slice-known.given j).fits) i
 
 -- row 3, once the arities are looked at; where one is too high; where none is
-arity-found : (c : tie.After-high-arity) → row3 (aritiesIn c.before.before.before.args.file.now) ≡ row 3 (place_in c.high-arity.result)
+arity-found : (c : tie.After-high-arity) → row3 (arities_in c.before.before.before.args.file.now) ≡ row 3 (place_in c.high-arity.result)
 arity-found c =
     let start = c.before.before.before in
     ap row3 (sym (arities_part start.args.file.now start.args.symbols start.requires.0)) ∙ c.high-arity.ensures
 
-high : (c : tie.After-known-told) → row3 (aritiesIn c.before.before.before.before.before.before.args.file.now) ≡ row 3 (just c.before.symbol.given.0.0)
+high : (c : tie.After-known-told) → row3 (arities_in c.before.before.before.before.before.before.args.file.now) ≡ row 3 (just c.before.symbol.given.0.0)
 high c = arity-found c.before.before.before ∙ ap (λ r. row 3 (place_in r)) c.before.symbol.given.1
 
-no-high : (c : tie.After-enum-told) → row3 (aritiesIn c.before.before.before.before.before.args.file.now) ≡ row 3 none
+no-high : (c : tie.After-enum-told) → row3 (arities_in c.before.before.before.before.before.args.file.now) ≡ row 3 none
 no-high c = arity-found c.before.before ∙ ap (λ r. row 3 (place_in r)) c.enum_told.given.1
 
 -- row 4, where a pair is bad
 bad : (c : tie.After-known-told2)
     → let f = c.before.before.before.before.before.before.before.before.before.args.file.now in
-    row4 (aritiesIn f) (pairsIn f) ≡ row 4 (just c.before.pair.given.0.0)
+    row4 (arities_in f) (pairs_in f) ≡ row 4 (just c.before.pair.given.0.0)
 bad c = c.before.before.before.bad-pair.ensures ∙ ap (λ r. row 4 (place_in r)) c.before.pair.given.1
 
 add-arities : tie.Need-overflow-add-arities
@@ -58,7 +58,7 @@ cast-t13 : tie.Need-overflow-cast-t13
 cast-t13 c =
     let f = c.before.before.before.before.before.before.args.file.now in
     let p = c.before.before.before.before.before.before.requires in
-    omega (arith, row3_inside (aritiesIn f) c.before.symbol.given.0.0 (high c), length_arities f (omega arith), small c.before.before.before.before.before 0)
+    omega (arith, row3_inside (arities_in f) c.before.symbol.given.0.0 (high c), length_arities f (omega arith), small c.before.before.before.before.before 0)
 
 enum_told : tie.Need-enum-told
 enum_told c = search rules
@@ -74,7 +74,7 @@ enum-known-pair c = search rules
 cast-t17 : tie.Need-overflow-cast-t17
 cast-t17 c =
     let f = c.before.before.before.before.before.before.before.before.before.args.file.now in
-    omega (arith, row4_inside (aritiesIn f) (pairsIn f) c.before.pair.given.0.0 (bad c), length-pairs_in f, small c.before.before.before.before.before.before.before.before 2)
+    omega (arith, row4_inside (arities_in f) (pairs_in f) c.before.pair.given.0.0 (bad c), length-pairs_in f, small c.before.before.before.before.before.before.before.before 2)
 
 enum-told-2 : tie.Need-enum-told-2
 enum-told-2 c = search rules
@@ -82,7 +82,7 @@ enum-told-2 c = search rules
 returns : tie.Need-returns
 returns c =
     let f = c.before.before.before.before.before.before.args.file.now in
-    sym (ap (λ r. first (r ∷ row4 (aritiesIn f) (pairsIn f) ∷ [])) (high c))
+    sym (ap (λ r. first (r ∷ row4 (arities_in f) (pairs_in f) ∷ [])) (high c))
 
 returns-2 : tie.Need-returns-2
 returns-2 c = rw (no-high c.before.before.before.before, bad c)

@@ -4,8 +4,8 @@ use mathlib.Core.Path.{ap, sym, ◌∙◌}
 use mathlib.Core.List.{[], ◌∷◌}
 use Prim.Native.Nat.{◌<◌}
 use native.Mathlib.Omega.{arith}
-use Rattle.meaning.specs.File.{symbolCount}
-use Rattle.meaning.specs.Refusals.{tableRows, row14}
+use Rattle.meaning.specs.File.{symbol_count_lem}
+use Rattle.meaning.specs.Refusals.{table_rows, row14}
 use Rattle.meaning.specs.Calls.{gives, back_rows, arity_back}
 use Rattle.meaning.proofs.Back.{reads_back}
 use Rattle.table.proofs.Reading.{size_is, arity_is}
@@ -36,13 +36,13 @@ returns : tie.Need-returns
 unfolding back_rows arity_back
 returns c =
     let t = c.before.before.before.before.before.args.table.now in
-    says_early _ c.before.checked.given.0.0 (tableRows t) (row14 c.before.before.before.before.before.args.symbol _ ∷ []) (refused_by_lem t c.before.before.before.check.result c.before.before.before.check.ensures c.before.checked.given.0.0 c.before.checked.given.1)
+    says_early _ c.before.checked.given.0.0 (table_rows t) (row14 c.before.before.before.before.before.args.symbol _ ∷ []) (refused_by_lem t c.before.before.before.check.result c.before.before.before.check.ensures c.before.checked.given.0.0 c.before.checked.given.1)
 
 returns-2 : tie.Need-returns-2
 returns-2 c =
     let t = c.before.before.before.before.before.before.before.args.table.now in
     let s = sound_by t c.before.before.before.before.before.check.result c.before.before.before.before.before.check.ensures c.before.before.before.enum_told.given.1 in
-    let l : c.before.before.before.before.before.before.before.args.symbol < symbolCount t = omega (arith, c.before.before.symbol-count.ensures.0, size_is t s) in
+    let l : c.before.before.before.before.before.before.before.args.symbol < symbol_count_lem t = omega (arith, c.before.before.symbol-count.ensures.0, size_is t s) in
     ap gives (c.arity.ensures.0 ∙ arity_is t s c.before.before.before.before.before.before.before.args.symbol (omega (arith, size_is t s))) ∙ sym ((reads_back t s).arity c.before.before.before.before.before.before.before.args.symbol l)
 
 returns-3 : tie.Need-returns-3

@@ -1,6 +1,6 @@
 -- The call says what the check of the table found.
 use borrow.Author.Rules.{rules}
-use Rattle.meaning.specs.Refusals.{tableRows}
+use Rattle.meaning.specs.Refusals.{table_rows}
 use Rattle.meaning.specs.Calls.{aye, is_table_lem}
 use Rattle.sound.proofs.Checks.{sound_by, refused_by_lem, says}
 use Rattle.tables.proofs.is_table.Statement.{statement}
@@ -17,7 +17,7 @@ enum_told c = search rules
 
 returns : tie.Need-returns
 unfolding is_table_lem
-returns c = let t = c.before.before.before.before.before.args.table.now in says aye c.before.checked.given.0.0 (tableRows t) (refused_by_lem t c.before.before.before.check.result c.before.before.before.check.ensures c.before.checked.given.0.0 c.before.checked.given.1)
+returns c = let t = c.before.before.before.before.before.args.table.now in says aye c.before.checked.given.0.0 (table_rows t) (refused_by_lem t c.before.before.before.check.result c.before.before.before.check.ensures c.before.checked.given.0.0 c.before.checked.given.1)
 
 returns-2 : tie.Need-returns-2
 unfolding is_table_lem

@@ -4,11 +4,11 @@ use mathlib.Core.Path.{ap, sym, ◌∙◌}
 use mathlib.Core.List.{[], ◌∷◌}
 use Prim.Native.Nat.{◌<◌}
 use native.Mathlib.Omega.{arith}
-use Rattle.meaning.specs.File.{pairCount}
-use Rattle.meaning.specs.Refusals.{tableRows, row14}
+use Rattle.meaning.specs.File.{pair_count_lem}
+use Rattle.meaning.specs.Refusals.{table_rows, row14}
 use Rattle.meaning.specs.Calls.{gives, back_rows, pair_back}
 use Rattle.meaning.proofs.Back.{reads_back}
-use Rattle.meaning.proofs.Bytes.{pair_in}
+use Rattle.meaning.proofs.Bytes.{pair_in_lem}
 use Rattle.sound.proofs.Checks.{sound_by, refused_by_lem, says_early}
 use Rattle.tables.proofs.pair_of.Statement.{statement}
 use Rattle.tables.proofs.pair_of.Tie as tie
@@ -39,14 +39,14 @@ returns : tie.Need-returns
 unfolding back_rows pair_back
 returns c =
     let t = c.before.before.before.before.before.args.table.now in
-    says_early _ c.before.checked.given.0.0 (tableRows t) (row14 c.before.before.before.before.before.args.index _ ∷ []) (refused_by_lem t c.before.before.before.check.result c.before.before.before.check.ensures c.before.checked.given.0.0 c.before.checked.given.1)
+    says_early _ c.before.checked.given.0.0 (table_rows t) (row14 c.before.before.before.before.before.args.index _ ∷ []) (refused_by_lem t c.before.before.before.check.result c.before.before.before.check.ensures c.before.checked.given.0.0 c.before.checked.given.1)
 
 returns-2 : tie.Need-returns-2
 returns-2 c =
     let t = c.before.before.before.before.before.before.before.args.table.now in
     let s = sound_by t c.before.before.before.before.before.check.result c.before.before.before.before.before.check.ensures c.before.before.before.enum_told.given.1 in
-    let l : c.before.before.before.before.before.before.before.args.index < pairCount t = omega (arith, c.before.before.pair-count.ensures, c.before.before.pair-count.ensures) in
-    ap gives (c.pair-at.ensures ∙ pair_in t c.before.before.before.before.before.before.before.args.index l) ∙ sym ((reads_back t s).pair c.before.before.before.before.before.before.before.args.index l)
+    let l : c.before.before.before.before.before.before.before.args.index < pair_count_lem t = omega (arith, c.before.before.pair-count.ensures, c.before.before.pair-count.ensures) in
+    ap gives (c.pair-at.ensures ∙ pair_in_lem t c.before.before.before.before.before.before.before.args.index l) ∙ sym ((reads_back t s).pair c.before.before.before.before.before.before.before.args.index l)
 
 returns-3 : tie.Need-returns-3
 returns-3 c =

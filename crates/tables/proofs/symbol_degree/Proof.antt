@@ -4,8 +4,8 @@ use borrow.Author.Rules.{rules}
 use mathlib.Core.Path.{refl, sym, ap, ◌∙◌}
 use mathlib.Core.List.{[], ◌∷◌}
 use native.Mathlib.Omega.{arith}
-use Rattle.meaning.specs.File.{symbolCount}
-use Rattle.meaning.specs.Refusals.{tableRows, row13}
+use Rattle.meaning.specs.File.{symbol_count_lem}
+use Rattle.meaning.specs.Refusals.{table_rows, row13}
 use Rattle.meaning.specs.Calls.{gives, symbol_rows, symbol_degree_lem}
 use Rattle.meaning.proofs.Degrees.{gives_degree, symbol_degrees}
 use Rattle.table.proofs.Reading.{size_is}
@@ -53,7 +53,7 @@ returns-3 c =
     let a = c.before.before.before.before.before.args in
     let t = a.table.now in
     let why = c.before.checked.given.0.0 in
-    says_early _ why (tableRows t) (row13 (symbolCount t) a.a a.b ∷ [])
+    says_early _ why (table_rows t) (row13 (symbol_count_lem t) a.a a.b ∷ [])
     (refused_by_lem t c.before.before.before.check.result c.before.before.before.check.ensures why c.before.checked.given.1)
 
 returns-4 : tie.Need-returns-4

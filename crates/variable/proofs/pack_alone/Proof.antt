@@ -9,7 +9,7 @@ use lib.ListN.{length}
 use Rattle.theory.specs.Tree.{Term, enc}
 use Rattle.theory.specs.Table.{Table}
 use Rattle.theory.specs.Match.{size}
-use Rattle.meaning.specs.Limits.{setWords}
+use Rattle.meaning.specs.Limits.{set_words_lem}
 use Rattle.sets.specs.Words.{Words}
 use Rattle.sets.proofs.Laws.{words_of}
 use Rattle.positions.specs.Position.{NearOf}
@@ -69,8 +69,8 @@ loop-again c =
     let start = turn.before.before.before.before.before in
     let loop = turn.before.loop in
     let set = taken.set-of in
-    let many : length set.result.words ≡ setWords = search rules in
-    let words : Words setWords set.result.words = search (rules, words_of) in (
+    let many : length set.result.words ≡ set_words_lem = search rules in
+    let words : Words set_words_lem set.result.words = search (rules, words_of) in (
       omega arith,
       put.put.auto.1.0 ∙ loop.invariant.1,
       λ T t cut writes known.

@@ -10,14 +10,14 @@ use lib.ListN.{length}
 use Rattle.theory.specs.Tree.{Term}
 use Rattle.theory.specs.Match.{positions as positionsOf}
 use Rattle.theory.specs.Stands.{start_of, Gathered}
-use Rattle.meaning.specs.Limits.{setWords}
-use Rattle.meaning.specs.File.{tableIn}
+use Rattle.meaning.specs.Limits.{set_words_lem}
+use Rattle.meaning.specs.File.{table_in}
 use Rattle.meaning.proofs.Sound.{sound}
 use Rattle.sets.specs.Words.{Words}
 use Rattle.sets.proofs.Laws.{words_of}
 use Rattle.wide.specs.Index.{Index}
 use Rattle.wide.proofs.Chains.{index_laid}
-use Rattle.positions.specs.Position.{noteCount, NearOf}
+use Rattle.positions.specs.Position.{note_count, NearOf}
 use Rattle.variable.specs.Variable.{PackedTo}
 use Rattle.variable.proofs.Positions.{positions-first, packed_none, packed_next}
 use Rattle.variable.proofs.Shared.{stand_kept, degrees_fall, position}
@@ -32,8 +32,8 @@ invariant-loop table near index₀ heading notes sets₀ counts positions formed
     × Index table index
     × (range.lowest ≤ 1000)
     × (range.highest ≤ 1000)
-    × ((ts : List Term) (cut : ℕ) → Gathered heading notes (noteCount notes) ts → NearOf (tableIn table) cut near heading
-    → PackedTo (tableIn table) cut ts k sets₀ sets formed range.lowest range.highest)
+    × ((ts : List Term) (cut : ℕ) → Gathered heading notes (note_count notes) ts → NearOf (table_in table) cut near heading
+    → PackedTo (table_in table) cut ts k sets₀ sets formed range.lowest range.highest)
 
 abbrev decreases-loop : tie.decreases-loop
 decreases-loop table near index₀ heading notes sets₀ counts positions formed₀ range₀ k₀ index sets formed range k =
@@ -113,7 +113,7 @@ add-k c = omega (arith, few-positions c.before.before.before.before.before.befor
 loop-less : tie.Need-loop-smaller invariant-loop decreases-loop
 loop-less c = search rules
 
-set_words : (c : tie.After-shared-at invariant-loop decreases-loop) → Words setWords c.shared_at.result.set.words
+set_words : (c : tie.After-shared-at invariant-loop decreases-loop) → Words set_words_lem c.shared_at.result.set.words
 set_words c = search (rules, words_of)
 
 form-is : (c : tie.Joined1 invariant-loop decreases-loop) → c.if1.formed ≡ cond c.before.is-empty.result false c.before.before.before.before.before.before.before.before.before.before.loop.formed

@@ -6,7 +6,7 @@ use Prim.Native.Nat.{ℕ, ◌+◌, ◌-◌, ◌<◌}
 use native.Mathlib.Omega.{arith}
 use lib.ListN.{length, get_or, take, drop}
 use lib.Seq.{get_or-take, get_or-drop}
-use Rattle.meaning.specs.File.{tableIn}
+use Rattle.meaning.specs.File.{table_in}
 use Rattle.meaning.specs.Buffers.{member}
 use Rattle.wide.specs.Index.{Chained}
 use Rattle.wide.proofs.Sharing.{SharedTo, shared-first, shared_next, shared_end}
@@ -15,7 +15,7 @@ use Rattle.wide.proofs.lower_to_shared.Tie as tie
 
 abbrev invariant-loop : tie.invariant-loop
 invariant-loop file counts index₀ least₀ faced symbols a₀ index least a =
-    (length index ≡ length index₀) × (length least ≡ length least₀) × (a < symbols → member faced.words a ≡ true) × SharedTo (tableIn file) faced.words a least × Chained file index
+    (length index ≡ length index₀) × (length least ≡ length least₀) × (a < symbols → member faced.words a ≡ true) × SharedTo (table_in file) faced.words a least × Chained file index
 
 abbrev decreases-loop : tie.decreases-loop
 decreases-loop file counts index₀ least₀ faced symbols a₀ index least a = symbols - a
@@ -27,7 +27,7 @@ loop-holds : tie.Need-loop-init invariant-loop decreases-loop
 loop-holds c =
     let s = c.before.before.before.before.before.before in
     let found = c.next-member.ensures in
-    (refl, refl, found.is, shared-first (tableIn s.args.file.now) s.args.t4.words _ _ found.none s.requires.1, s.requires.0.1)
+    (refl, refl, found.is, shared-first (table_in s.args.file.now) s.args.t4.words _ _ found.none s.requires.1, s.requires.0.1)
 
 kept-row-requires : tie.Need-kept-row-requires invariant-loop decreases-loop
 kept-row-requires c κs = search rules
@@ -68,7 +68,7 @@ loop-less c = search rules
 loop-again : tie.Need-loop-preserved invariant-loop decreases-loop
 loop-again c =
     let s = c.before.before.before.before.before.before.before.before.before.before.before.before.before.before.before.before.before.before.before.before.before in
-    let T = tableIn s.args.file.now in
+    let T = table_in s.args.file.now in
     let size = s.requires.0.0.symbols-are in
     let loop = c.before.before.before.before.before.before.before.before.before.before.before.before.before.before.loop in
     let kept = c.before.before.before.before.before.before.before.before.before.before.before.kept_row in
@@ -92,7 +92,7 @@ returns : tie.Need-returns invariant-loop decreases-loop
 returns c =
     let s = c.before.before.before.before.before.before.before.before in
     let loop = c.before.loop in
-    (loop.invariant.4, shared_end (tableIn s.args.file.now) s.args.t4.words loop.a _ (omega (arith, s.requires.0.0.symbols-are)) loop.invariant.3)
+    (loop.invariant.4, shared_end (table_in s.args.file.now) s.args.t4.words loop.a _ (omega (arith, s.requires.0.0.symbols-are)) loop.invariant.3)
 
 pub lower-to-shared-spec : {M : Type 1} → statement M
 lower-to-shared-spec =

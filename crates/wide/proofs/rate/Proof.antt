@@ -6,7 +6,7 @@ use mathlib.Core.Bool.{cond}
 use Prim.Native.Nat.{ℕ, ◌+◌, ◌-◌, ◌≤◌, ◌<◌, min, max}
 use native.Mathlib.Omega.{arith}
 use native.Mathlib.Numerals.{add-one}
-use Rattle.wide.specs.Shared.{lowestFrom, highestFrom}
+use Rattle.wide.specs.Shared.{lowest_from, highest_from}
 use lib.Dec.{leb}
 use lib.ListN.{get_or}
 use Rattle.wide.proofs.rate.Statement.{statement}
@@ -15,7 +15,7 @@ use Rattle.wide.proofs.rate.Tie as tie
 module _ (least : List ℕ) (symbols floor : ℕ) where
   -- `low` and `high` are the lowest and the highest of the first s numbers, if f says what these are
   abbrev RatedTo : ℕ → ℕ → ℕ → Type 0
-  RatedTo s low high = (f : ℕ → ℕ) → ((t : ℕ) → t < symbols → get_or least t 0 ≡ f t) → (low ≡ lowestFrom floor s f) × (high ≡ highestFrom floor s f)
+  RatedTo s low high = (f : ℕ → ℕ) → ((t : ℕ) → t < symbols → get_or least t 0 ≡ f t) → (low ≡ lowest_from floor s f) × (high ≡ highest_from floor s f)
 
   rated-more : (s low high low' high' x y : ℕ) → s < symbols → x ≡ cond (leb floor (get_or least s 0)) (get_or least s 0) 1000 → low' ≡ min low x
       → y ≡ cond (leb floor (get_or least s 0)) (get_or least s 0) 0 → high' ≡ max high y → RatedTo s low high → RatedTo (s + 1) low' high'

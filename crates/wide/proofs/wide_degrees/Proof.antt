@@ -2,9 +2,9 @@
 use borrow.Author.Rules.{rules}
 use native.Mathlib.Omega.{arith}
 use lib.ListN.{get_or-replicate}
-use Rattle.meaning.specs.Limits.{setRoom}
-use Rattle.meaning.specs.File.{tableIn}
-use Rattle.wide.specs.Shared.{sharedBy}
+use Rattle.meaning.specs.Limits.{set_room}
+use Rattle.meaning.specs.File.{table_in}
+use Rattle.wide.specs.Shared.{shared_by_lem}
 use Rattle.wide.proofs.wide_degrees.Statement.{statement}
 use Rattle.wide.proofs.wide_degrees.Tie as tie
 
@@ -21,7 +21,7 @@ lower-to-shared-requires : tie.Need-lower-to-shared-requires
 lower-to-shared-requires c κs =
     let s = c.before.before.before.before.before.before.before.before.before in
     let counted = c.before.before.before.before.before.before.Counts-of.ensures in
-    ((counted, c.before.before.before.before.link-pairs.ensures, s.requires.2, omega (arith, counted.few, counted.symbols_are)), λ t l. get_or-replicate setRoom t 1000 0 (omega (arith, counted.few, counted.symbols_are)))
+    ((counted, c.before.before.before.before.link-pairs.ensures, s.requires.2, omega (arith, counted.few, counted.symbols_are)), λ t l. get_or-replicate set_room t 1000 0 (omega (arith, counted.few, counted.symbols_are)))
 
 slice-aggregate-rate : tie.Need-slice-aggregate-rate
 slice-aggregate-rate c = search rules
@@ -41,7 +41,7 @@ returns c =
     let file = s.args.file.now in
     let counted = c.before.before.before.before.before.before.before.before.before.before.before.before.before.Counts-of.ensures in
     let lowered = c.before.before.before.before.before.before.lower-to-shared.ensures in
-    let rated = c.rate.ensures (sharedBy (tableIn file) s.args.faced.words) (λ t l. lowered.1 t (omega (arith, counted.symbols_are))) in
+    let rated = c.rate.ensures (shared_by_lem (table_in file) s.args.faced.words) (λ t l. lowered.1 t (omega (arith, counted.symbols_are))) in
     (lowered.0.0, rw counted.symbols_are at rated)
 
 pub wide-degrees-spec : {M : Type 1} → statement M

@@ -6,7 +6,7 @@ use lib.ListN.{length}
 use Rattle.meaning.specs.File.{header}
 use Rattle.meaning.specs.Calls.{gives}
 use Rattle.refusal.specs.Told.{told}
-use Rattle.writer.specs.Counted.{countedAnswer}
+use Rattle.writer.specs.Counted.{counted_answer}
 use Rattle.writer.specs.Said.{said}
 use Rattle.meaning.proofs.Over.{over_next}
 use Rattle.writer.proofs.Rows.{given_counted, given_room, begun_given, begun_refused}
@@ -21,7 +21,7 @@ enum_told c = search rules
 
 -- what is known where the front is written
 given : (c : tie.After-enum-told) → let a = c.before.before.before.before.before.args in
-    gives c.enum_told.given.0.0 ≡ countedAnswer a.arities.now a.pairs a.sound (length a.output.now)
+    gives c.enum_told.given.0.0 ≡ counted_answer a.arities.now a.pairs a.sound (length a.output.now)
 given c = sym (ap said c.enum_told.given.1) ∙ c.before.before.verdict.ensures
 
 put-header-requires : tie.Need-put-header-requires

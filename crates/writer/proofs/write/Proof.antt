@@ -6,12 +6,12 @@ use mathlib.Core.List.{List}
 use Prim.Native.Nat.{ℕ, ◌+◌, ◌%◌}
 use native.Mathlib.Omega.{arith}
 use lib.ListN.{length}
-use Rattle.meaning.specs.File.{pairsOf}
+use Rattle.meaning.specs.File.{pairs_of}
 use Rattle.meaning.specs.Refusals.{row, row4}
 use Rattle.meaning.specs.Calls.{gives}
 use Rattle.refusal.specs.Told.{told}
 use Rattle.meaning.specs.Over.{over}
-use Rattle.writer.specs.Counted.{stop, countedAnswer, begunOutput}
+use Rattle.writer.specs.Counted.{stop, counted_answer, begun_output}
 use Rattle.writer.specs.Said.{said}
 use Rattle.writer.proofs.Numbers.{length-pairs_of, bytes_of_pairs, sound_whole}
 use Rattle.writer.proofs.Rows.{given_room}
@@ -48,28 +48,28 @@ output c = c.before.before.before.before.before.before.before.before.args.output
 abbrev sound : tie.After-slice-known2 → ℕ
 sound c = c.before.before.before.before.sound-pairs.result
 
-counted : (c : tie.After-slice-known2) → row4 (arities c) (pairsOf (numbers c)) ≡ row 4 (stop (sound c) (length (pairsOf (numbers c))))
+counted : (c : tie.After-slice-known2) → row4 (arities c) (pairs_of (numbers c)) ≡ row 4 (stop (sound c) (length (pairs_of (numbers c))))
 counted c = c.before.before.before.before.sound-pairs.ensures
 
 -- what the front came to, by the pairs
-answered : (c : tie.After-slice-known2) → said c.before.before.begin.result ≡ sound_answer (arities c) (pairsOf (numbers c)) (output c) (sound c)
+answered : (c : tie.After-slice-known2) → said c.before.before.begin.result ≡ sound_answer (arities c) (pairs_of (numbers c)) (output c) (sound c)
 answered c =
     c.before.before.begin.ensures.0
-    ∙ ap (λ p. countedAnswer (arities c) p (sound c) (length (output c))) (sym (length-pairs_of (numbers c)))
+    ∙ ap (λ p. counted_answer (arities c) p (sound c) (length (output c))) (sym (length-pairs_of (numbers c)))
 
-front : (c : tie.After-slice-known2) → c.before.before.begin.new.1.1.1.0 ≡ sound_front (arities c) (pairsOf (numbers c)) (output c) (sound c)
+front : (c : tie.After-slice-known2) → c.before.before.begin.new.1.1.1.0 ≡ sound_front (arities c) (pairs_of (numbers c)) (output c) (sound c)
 front c =
     c.before.before.begin.ensures.1
-    ∙ ap (λ p. begunOutput (arities c) p (sound c) (output c)) (sym (length-pairs_of (numbers c)))
+    ∙ ap (λ p. begun_output (arities c) p (sound c) (output c)) (sym (length-pairs_of (numbers c)))
 
 -- where it is no refusal
-given : (c : tie.After-enum-told) → let k = c.before.before in gives c.enum_told.given.0.0 ≡ sound_answer (arities k) (pairsOf (numbers k)) (output k) (sound k)
+given : (c : tie.After-enum-told) → let k = c.before.before in gives c.enum_told.given.0.0 ≡ sound_answer (arities k) (pairs_of (numbers k)) (output k) (sound k)
 given c = sym (ap said c.enum_told.given.1) ∙ answered c.before.before
 
 whole : (c : tie.After-enum-told) → length (numbers c.before.before) % 3 ≡ 0
 whole c =
     let k = c.before.before in
-    sound_whole (arities k) (numbers k) (written_sound (arities k) (pairsOf (numbers k)) (output k) (sound k) (counted k) _ (given c))
+    sound_whole (arities k) (numbers k) (written_sound (arities k) (pairs_of (numbers k)) (output k) (sound k) (counted k) _ (given c))
 
 put-numbers-requires : tie.Need-put-numbers-requires
 put-numbers-requires c κs =
@@ -87,8 +87,8 @@ returns c =
     let known = c.before.before.before.before in
     let k = known.before.before in
     let ns = numbers k in (
-      answered k ∙ answer_written (arities k) (pairsOf ns) (output k) (sound k) (counted k),
-      written-later (arities k) (pairsOf ns) (output k) (sound k) (counted k) _ (given known)
+      answered k ∙ answer_written (arities k) (pairs_of ns) (output k) (sound k) (counted k),
+      written-later (arities k) (pairs_of ns) (output k) (sound k) (counted k) _ (given known)
           (c.before.before.put-numbers.ensures ∙ ap₂ (λ l bytes. over l (10 + length (arities k)) bytes) (front k) (sym (bytes_of_pairs ns (whole known)))),
     )
 
@@ -99,8 +99,8 @@ returns-2 : tie.Need-returns-2
 returns-2 c =
     let k = c.before.before in
     let f = told c.enum-told2.given.0.0 in (
-      answered k ∙ answer_written (arities k) (pairsOf (numbers k)) (output k) (sound k) (counted k),
-      front k ∙ refused_later (arities k) (pairsOf (numbers k)) (output k) (sound k) (counted k) f (sym (ap said c.enum-told2.given.1) ∙ answered k),
+      answered k ∙ answer_written (arities k) (pairs_of (numbers k)) (output k) (sound k) (counted k),
+      front k ∙ refused_later (arities k) (pairs_of (numbers k)) (output k) (sound k) (counted k) f (sym (ap said c.enum-told2.given.1) ∙ answered k),
     )
 
 pub write_spec : {M : Type 1} → statement M

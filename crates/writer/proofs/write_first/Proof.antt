@@ -6,9 +6,9 @@ use Prim.Native.Nat.{ℕ, ◌*◌, ◌≤◌}
 use native.Mathlib.Omega.{arith}
 use lib.ListN.{length, take, length-take}
 use Rattle.theory.specs.Pairs.{Pair}
-use Rattle.meaning.specs.Limits.{mostPairs}
-use Rattle.meaning.specs.File.{pairsOf}
-use Rattle.meaning.specs.Calls.{written, laterOutput}
+use Rattle.meaning.specs.Limits.{most_pairs}
+use Rattle.meaning.specs.File.{pairs_of}
+use Rattle.meaning.specs.Calls.{written, later_output}
 use Rattle.writer.specs.Laid.{Laid}
 use Rattle.writer.proofs.Numbers.{pairs_of_numbers}
 use Rattle.writer.proofs.Writer.{many_refused, many_left}
@@ -16,8 +16,8 @@ use Rattle.writer.proofs.write_first.Statement.{statement}
 use Rattle.writer.proofs.write_first.Tie as tie
 
 -- the pairs that the numbers begin with
-laid-pairs : (numbers : List ℕ) (n : ℕ) → n ≤ mostPairs → (pairs : List Pair) → length pairs ≡ n → Laid numbers pairs → pairsOf (take (3 * n) numbers) ≡ pairs
-laid-pairs numbers n few pairs e laid = ap (λ m. pairsOf (take (3 * m) numbers)) (sym e) ∙ ap pairsOf (laid (omega arith)) ∙ pairs_of_numbers pairs
+laid-pairs : (numbers : List ℕ) (n : ℕ) → n ≤ most_pairs → (pairs : List Pair) → length pairs ≡ n → Laid numbers pairs → pairs_of (take (3 * n) numbers) ≡ pairs
+laid-pairs numbers n few pairs e laid = ap (λ m. pairs_of (take (3 * m) numbers)) (sym e) ∙ ap pairs_of (laid (omega arith)) ∙ pairs_of_numbers pairs
 
 returns : tie.Need-returns
 returns c =
@@ -42,11 +42,11 @@ same_length c = search rules
 returns-2 : tie.Need-returns-2
 returns-2 c =
     let a = c.before.before.before.before.before.before.before.before.before.args in
-    let few : a.pairs ≤ mostPairs = omega arith in
+    let few : a.pairs ≤ most_pairs = omega arith in
     let same = laid-pairs a.numbers.now a.pairs few in
     let wrote = c.before.before.write.ensures in (
       λ ps n laid. wrote.0 ∙ ap (λ qs. written a.arities.now qs a.output.now) (same ps n laid),
-      λ ps n laid. wrote.1 ∙ ap (λ qs. laterOutput a.arities.now qs a.output.now) (same ps n laid),
+      λ ps n laid. wrote.1 ∙ ap (λ qs. later_output a.arities.now qs a.output.now) (same ps n laid),
     )
 
 pub write-first-spec : {M : Type 1} → statement M

@@ -2,7 +2,7 @@
 use borrow.Author.Rules.{rules}
 use mathlib.Core.Path.{sym, ap, ◌∙◌}
 use Rattle.tables.specs.Tables.{said_pair}
-use Rattle.capi.specs.Tables.{lower_of, higher_of, degreeOf}
+use Rattle.capi.specs.Tables.{lower_of, higher_of, degree_of}
 use Rattle.capi.proofs.Told.{refused_code, refused_later, gives_code, gives_later}
 use Rattle.capi.proofs.files.shx_pair.Statement.{statement}
 use Rattle.capi.proofs.files.shx_pair.Tie as tie
@@ -26,7 +26,7 @@ returns c =
       answers = gives_code _ _ e;
       leaves_lower = gives_later _ lower_of _ _ e;
       leaves_higher = gives_later _ higher_of _ _ e;
-      leaves_degree = gives_later _ degreeOf _ _ e;
+      leaves_degree = gives_later _ degree_of _ _ e;
     }
 
 returns-2 : tie.Need-returns-2
@@ -37,7 +37,7 @@ returns-2 c =
       answers = refused_code _ why _ c.refused.ensures e;
       leaves_lower = refused_later _ lower_of _ why e;
       leaves_higher = refused_later _ higher_of _ why e;
-      leaves_degree = refused_later _ degreeOf _ why e;
+      leaves_degree = refused_later _ degree_of _ why e;
     }
 
 pub shx-pair-spec : {M : Type 1} → statement M

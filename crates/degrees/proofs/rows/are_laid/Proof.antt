@@ -3,8 +3,8 @@ use borrow.Author.Rules.{rules}
 use mathlib.Core.Path.{◌≡◌, ap, ◌∙◌}
 use Prim.Native.Nat.{ℕ, ◌+◌, ◌<◌}
 use native.Mathlib.Omega.{arith}
-use Rattle.meaning.specs.File.{number, pairCount, tableIn}
-use Rattle.meaning.specs.Tables.{pairStart}
+use Rattle.meaning.specs.File.{number, pair_count_lem, table_in}
+use Rattle.meaning.specs.Tables.{pair_start}
 use Rattle.table.proofs.Reading.{size_is, pair_inside}
 use Rattle.degrees.proofs.Listed.{pair_symbols}
 use Rattle.degrees.proofs.rows.are_laid.Statement.{statement}
@@ -20,10 +20,10 @@ add-number-at : tie.Need-overflow-add-number-at
 add-number-at c = search rules
 
 -- there is a first pair, and it stands behind the arities
-some : (c : tie.Start) → (c.args.counts.pairs ≡ 0 → ⊥) → 0 < pairCount c.args.file.now
+some : (c : tie.Start) → (c.args.counts.pairs ≡ 0 → ⊥) → 0 < pair_count_lem c.args.file.now
 some c h = omega (arith, c.requires.0.pairs-are)
 
-first-at : (c : tie.Start) → 10 + c.args.counts.symbols ≡ pairStart c.args.file.now 0
+first-at : (c : tie.Start) → 10 + c.args.counts.symbols ≡ pair_start c.args.file.now 0
 first-at c = omega (arith, c.requires.0.symbols-are, size_is c.args.file.now c.requires.0.sound)
 
 number-at-requires : tie.Need-number-at-requires

@@ -6,9 +6,9 @@ use mathlib.Core.List.{List}
 use Prim.Native.Nat.{ℕ, ◌+◌, ◌*◌, ◌-◌, ◌≤◌, ◌<◌}
 use native.Mathlib.Omega.{arith}
 use lib.ListN.{length, length-set}
-use Rattle.meaning.specs.File.{number, pairCount}
+use Rattle.meaning.specs.File.{number, pair_count_lem}
 use Rattle.meaning.specs.Refusals.{SoundFile}
-use Rattle.meaning.specs.Tables.{pairStart, lower_at}
+use Rattle.meaning.specs.Tables.{pair_start, lower_at}
 use Rattle.table.proofs.Reading.{size_is, pair_inside}
 use Rattle.degrees.specs.Rows.{RowsLaid}
 use Rattle.degrees.proofs.Listed.{pair_symbols}
@@ -17,7 +17,7 @@ use Rattle.degrees.proofs.rows.lay_rows.Statement.{statement}
 use Rattle.degrees.proofs.rows.lay_rows.Tie as tie
 
 abbrev invariant-loop : tie.invariant-loop
-invariant-loop file counts rows₀ pairs start k₀ rows k = (k ≤ pairCount file) × (length rows ≡ length rows₀) × RowsLaid file rows₀ rows × Parted file k
+invariant-loop file counts rows₀ pairs start k₀ rows k = (k ≤ pair_count_lem file) × (length rows ≡ length rows₀) × RowsLaid file rows₀ rows × Parted file k
 
 abbrev decreases-loop : tie.decreases-loop
 decreases-loop file counts rows₀ pairs start k₀ rows k = pairs - k
@@ -37,13 +37,13 @@ module _ (c : tie.In-loop invariant-loop decreases-loop) where
   ok : SoundFile fileAt
   ok = entry.pre.0.sound
 
-  below : k < pairCount fileAt
+  below : k < pair_count_lem fileAt
   below = omega (arith, entry.pre.0.pairs_are)
 
-  start_is : 10 + entry.args.counts.symbols ≡ pairStart fileAt 0
+  start_is : 10 + entry.args.counts.symbols ≡ pair_start fileAt 0
   start_is = omega (arith, entry.pre.0.symbols_are, size_is fileAt ok)
 
-  inside : pairStart fileAt k + 6 ≤ length fileAt
+  inside : pair_start fileAt k + 6 ≤ length fileAt
   inside = pair_inside fileAt ok k below
 
   parted : Parted fileAt k

@@ -5,8 +5,8 @@ use mathlib.Core.List.{List}
 use Prim.Native.Nat.{ℕ, ◌+◌, ◌-◌, ◌≤◌, ◌<◌}
 use native.Mathlib.Omega.{arith}
 use lib.ListN.{length}
-use Rattle.meaning.specs.File.{number, pairCount}
-use Rattle.meaning.specs.Tables.{pairStart, lower_at}
+use Rattle.meaning.specs.File.{number, pair_count_lem}
+use Rattle.meaning.specs.Tables.{pair_start, lower_at}
 use Rattle.table.proofs.Reading.{size_is, pair_inside}
 use Rattle.degrees.proofs.Narrowing.{stretch_passed}
 use Rattle.degrees.proofs.rows.pass_row.Statement.{statement}
@@ -14,7 +14,7 @@ use Rattle.degrees.proofs.rows.pass_row.Tie as tie
 
 abbrev invariant-loop : tie.invariant-loop
 invariant-loop file row first stretch pairs step start k₀ k =
-    (first ≤ k) × (k ≤ pairCount file) × ((j : ℕ) → first ≤ j → j < k → lower_at file j ≡ row)
+    (first ≤ k) × (k ≤ pair_count_lem file) × ((j : ℕ) → first ≤ j → j < k → lower_at file j ≡ row)
 
 abbrev decreases-loop : tie.decreases-loop
 decreases-loop file row first stretch pairs step start k₀ k = pairs - k
@@ -31,10 +31,10 @@ module _ (c : tie.In-loop invariant-loop decreases-loop) where
   abbrev last : ℕ
   last = c.before.loop.k + entry.args.stretch - 1
 
-  start_is : 10 + entry.args.counts.symbols ≡ pairStart fileAt 0
+  start_is : 10 + entry.args.counts.symbols ≡ pair_start fileAt 0
   start_is = let counted = entry.pre.0.0 in omega (arith, counted.symbols_are, size_is fileAt counted.sound)
 
-  inside : pairStart fileAt last + 6 ≤ length fileAt
+  inside : pair_start fileAt last + 6 ≤ length fileAt
   inside = let counted = entry.pre.0.0 in pair_inside fileAt counted.sound last (omega (arith, counted.pairs_are, entry.pre.0.2))
 
 lower-is : (c : tie.After-number-at invariant-loop decreases-loop) → c.number_at.result ≡ lower_at (fileAt c.before) (last c.before)

@@ -7,8 +7,8 @@ use Prim.Native.Nat.{ℕ, ◌-◌, ◌≤◌, ◌<◌}
 use native.Mathlib.Omega.{arith}
 use lib.ListN.{length, get_or}
 use Rattle.theory.proofs.Along.{Readable}
-use Rattle.meaning.specs.File.{tableIn}
-use Rattle.meaning.specs.Calls.{facesIn}
+use Rattle.meaning.specs.File.{table_in}
+use Rattle.meaning.specs.Calls.{faces_in}
 use Rattle.degrees.specs.Rows.{RowsLaid}
 use Rattle.degrees.proofs.Narrowing.{laid_before, laid_again}
 use Rattle.terms.specs.Kinds.{kind_of}
@@ -20,7 +20,7 @@ use Rattle.facing.proofs.faces.face.Tie as tie
 abbrev invariant-loop : tie.invariant-loop
 invariant-loop table pattern heading cut rows₀ notes₀ counts least₀ at₀ i₀ i-end rows notes least at i =
     (i ≤ length pattern) × (length rows ≡ length rows₀) × (length notes ≡ length notes₀) × RowsLaid table rows₀ rows
-    × Passing (tableIn table) cut pattern heading notes least at i
+    × Passing (table_in table) cut pattern heading notes least at i
 
 abbrev decreases-loop : tie.decreases-loop
 decreases-loop table pattern heading cut rows₀ notes₀ counts least₀ at₀ i₀ i-end rows notes least at i =
@@ -28,7 +28,7 @@ decreases-loop table pattern heading cut rows₀ notes₀ counts least₀ at₀ 
 
 -- both lists can be gone along
 lists : (c : tie.After-counts-of invariant-loop decreases-loop)
-    → let a = c.before.before.before.before.before.before.args in Readable (tableIn a.table.now) a.pattern.now a.heading.now
+    → let a = c.before.before.before.before.before.before.args in Readable (table_in a.table.now) a.pattern.now a.heading.now
 lists c =
     let s = c.before.before.before.before.before.before in
     readable s.args.table.now s.args.pattern.now s.args.heading.now s.requires.0.0 s.requires.1.0 s.requires.1.1.0
@@ -49,7 +49,7 @@ abbrev nodeAt : tie.After-kind-of invariant-loop decreases-loop → ℕ
 nodeAt c = get_or c.before.before.before.before.before.before.before.before.before.before.before.args.pattern.now c.before.before.before.before.loop.i 0
 
 abbrev symbolsAt : tie.After-kind-of invariant-loop decreases-loop → ℕ
-symbolsAt c = (tableIn c.before.before.before.before.before.before.before.before.before.before.before.args.table.now).size
+symbolsAt c = (table_in c.before.before.before.before.before.before.before.before.before.before.before.args.table.now).size
 
 kind-is : (c : tie.After-kind-of invariant-loop decreases-loop) → kind_of (symbolsAt c) (nodeAt c) ≡ c.kind-of.result
 kind-is c =
@@ -82,7 +82,7 @@ degree-is : (c : tie.After-degree-in-row invariant-loop decreases-loop)
     → let k = c.before.before.before.before.before.before in
     let turn = k.before.before.before.before in
     let a = turn.before.before.before.before.before.before.before.args in
-    c.degree-in-row.result ≡ (tableIn a.table.now).deg (nodeAt k) (get_or a.heading.now turn.loop.at 0)
+    c.degree-in-row.result ≡ (table_in a.table.now).deg (nodeAt k) (get_or a.heading.now turn.loop.at 0)
 degree-is c =
     let named = c.before.before.before.before in
     rw (← (is-symbol named).0) c.degree-in-row.ensures
@@ -135,7 +135,7 @@ same-length-2 : tie.Need-same-length-2 invariant-loop decreases-loop
 same-length-2 c = search rules
 
 returns : tie.Need-returns invariant-loop decreases-loop
-unfolding facesIn
+unfolding faces_in
 returns c =
     let named = c.before.before.before.before.before in
     let joined = named.before.before.before.before in
@@ -200,7 +200,7 @@ same-length-4 : tie.Need-same-length-4 invariant-loop decreases-loop
 same-length-4 c = search rules
 
 returns-2 : tie.Need-returns-2 invariant-loop decreases-loop
-unfolding facesIn
+unfolding faces_in
 returns-2 c =
     let e = passing_end (lists c.before.before) _ c.before.loop.invariant.4 (omega arith) in
     (record { clear = e.0; lowest = e.1; noted = e.2 }, c.before.loop.invariant.3)

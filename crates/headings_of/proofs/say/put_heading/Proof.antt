@@ -5,7 +5,7 @@ use mathlib.Core.List.{◌∷◌, map}
 use Rattle.meaning.specs.Program.{decimal, line}
 use Rattle.text.specs.Texts.{numeral}
 use Rattle.text.proofs.Puts.{put_then}
-use Rattle.marc.specs.Printed.{headingWord}
+use Rattle.marc.specs.Printed.{heading_word}
 use Rattle.output.proofs.Titles.{put_same}
 use Rattle.headings_of.proofs.Lines.{three_nodes}
 use Rattle.headings_of.proofs.say.put_heading.Statement.{statement}
@@ -60,7 +60,7 @@ returns c =
     let end = c.before.before.put-byte3.ensures in
     let behind-name = put_then second.ensures (put_then dates.ensures.0 end dates.auto.0) second.auto.0 in
     let behind-heading = put_then blank.ensures (put_then name.ensures.0 behind-name name.auto.0) blank.auto.0 in
-    put_same (ap (λ ns. line (headingWord ∷ map decimal ns)) (three_nodes s.args.nodes.now s.requires.1)) (put_then word.ensures (put_then heading.ensures.0 behind-heading heading.auto.0) word.auto.0)
+    put_same (ap (λ ns. line (heading_word ∷ map decimal ns)) (three_nodes s.args.nodes.now s.requires.1)) (put_then word.ensures (put_then heading.ensures.0 behind-heading heading.auto.0) word.auto.0)
 
 pub put-heading-spec : {M : Type 1} → statement M
 put-heading-spec =

@@ -1,6 +1,6 @@
 -- The word with its space, the number and the line end, one behind the other, are the line.
 use borrow.Author.Rules.{rules}
-use Rattle.marc.specs.Printed.{record_word, recordLine}
+use Rattle.marc.specs.Printed.{record_word, record_line}
 use Rattle.output.proofs.Titles.{put_numbered}
 use Rattle.headings_of.proofs.say.put_record_line.Statement.{statement}
 use Rattle.headings_of.proofs.say.put_record_line.Tie as tie
@@ -21,7 +21,7 @@ same_length : tie.Need-same-length
 same_length c = search rules
 
 returns : tie.Need-returns
-unfolding recordLine
+unfolding record_line
 returns c =
     let word = c.before.before.before.before.before.before.before.before.before.before.put-text in
     let number = c.before.before.before.before.before.before.put-long in

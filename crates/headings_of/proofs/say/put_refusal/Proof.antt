@@ -2,10 +2,10 @@
 use borrow.Author.Rules.{rules}
 use mathlib.Core.Path.{ap₂}
 use mathlib.Core.List.{[], ◌∷◌}
-use Rattle.meaning.specs.Program.{decimal, line, refusedWord}
+use Rattle.meaning.specs.Program.{decimal, line, refused_word}
 use Rattle.text.specs.Texts.{numeral}
 use Rattle.text.proofs.Puts.{put_then}
-use Rattle.marc.specs.Printed.{longDecimal}
+use Rattle.marc.specs.Printed.{long_decimal}
 use Rattle.output.proofs.Titles.{put_same}
 use Rattle.headings_of.proofs.say.put_refusal.Statement.{statement}
 use Rattle.headings_of.proofs.say.put_refusal.Tie as tie
@@ -46,7 +46,7 @@ returns c =
     let place = c.before.before.before.before.before.before.put-long in
     let end = c.before.before.put-byte2.ensures in
     let behind-number = put_then blank.ensures (put_then place.ensures.0 end place.auto.0) blank.auto.0 in
-    let says = ap₂ (λ n p. line (refusedWord ∷ decimal n ∷ longDecimal p ∷ [])) c.before.before.before.before.before.before.before.before.before.before.before.before.before.before.before.before.number.ensures c.before.before.before.before.before.before.before.place.ensures in
+    let says = ap₂ (λ n p. line (refused_word ∷ decimal n ∷ long_decimal p ∷ [])) c.before.before.before.before.before.before.before.before.before.before.before.before.before.before.before.before.number.ensures c.before.before.before.before.before.before.before.place.ensures in
     put_same says (put_then word.ensures (put_then number.ensures.0 behind-number number.auto.0) word.auto.0)
 
 pub put-refusal-spec : {M : Type 1} → statement M

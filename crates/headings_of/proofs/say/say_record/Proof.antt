@@ -5,10 +5,10 @@ use mathlib.Core.List.{[]}
 use native.Mathlib.Omega.{arith}
 use Rattle.text.proofs.Puts.{put_then}
 use Rattle.marc.specs.Known.{known_in}
-use Rattle.lines.specs.Lines.{lineRoom}
+use Rattle.lines.specs.Lines.{line_room}
 use Rattle.output.specs.Pendings.{Said, Roomy}
 use Rattle.output.proofs.Saying.{said_then_put, said_failed}
-use Rattle.headings_of.specs.Texts.{recordText}
+use Rattle.headings_of.specs.Texts.{record_text}
 use Rattle.headings_of.proofs.Lines.{record_short}
 use Rattle.headings_of.proofs.say.say_record.Statement.{statement}
 use Rattle.headings_of.proofs.say.say_record.Tie as tie
@@ -20,12 +20,12 @@ enum-known-written : tie.Need-enum-known-written
 enum-known-written c = search rules
 
 put-record-line-requires : tie.Need-put-record-line-requires
-put-record-line-requires c κs = omega (arith, subst (Roomy _ lineRoom) c.before.before.written.given.1 c.before.before.before.before.make-room.ensures.1)
+put-record-line-requires c κs = omega (arith, subst (Roomy _ line_room) c.before.before.written.given.1 c.before.before.before.before.make-room.ensures.1)
 
 put-answer-requires : tie.Need-put-answer-requires
 put-answer-requires c κs =
     let s = c.before.before.before.before.before.before.before.before.before.before.before.before.before.before.before in
-    let room = subst (Roomy _ lineRoom) c.before.before.before.before.before.before.written.given.1 c.before.before.before.before.before.before.before.before.make-room.ensures.1 in
+    let room = subst (Roomy _ line_room) c.before.before.before.before.before.before.written.given.1 c.before.before.before.before.before.before.before.before.make-room.ensures.1 in
     let line = c.before.before.before.put-record-line in
     (s.requires.0, omega (arith, room, line.ensures.ends, record_short s.args.k, line.auto.1.0))
 
@@ -51,7 +51,7 @@ returns-2 c =
     let s = c.before.before.before.before.before.before.before.before.before in
     let a = s.args in
     let out = a.out.now in
-    let text = recordText a.given.heading a.given.absent (known_in a.text.now a.ends.now a.numbers.now) a.k a.bytes.now in
+    let text = record_text a.given.heading a.given.absent (known_in a.text.now a.ends.now a.numbers.now) a.k a.bytes.now in
     said_failed out a.used [] text out out (subst (λ r. Said out s.args.used [] r out) c.enum_told.given.1 c.before.before.make-room.ensures.0)
 
 pub say-record-spec : {M : Type 1} → statement M

@@ -5,14 +5,14 @@ use mathlib.Core.Option.{none}
 use Prim.Native.Nat.{◌≤◌, ◌-◌}
 use native.Mathlib.Numerals.{add-one}
 use native.Mathlib.Omega.{arith}
-use Rattle.theory.specs.Least.{leastBelow}
+use Rattle.theory.specs.Least.{least_below}
 use Rattle.meaning.proofs.First.{least_on, least_at}
-use Rattle.known_strings.specs.Lent.{badIn}
+use Rattle.known_strings.specs.Lent.{bad_in}
 use Rattle.known_strings.proofs.bad.bad_of_few.Statement.{statement}
 use Rattle.known_strings.proofs.bad.bad_of_few.Tie as tie
 
 abbrev invariant-loop : tie.invariant-loop
-invariant-loop text ends numbers absent n j₀ j = (j ≤ n) × (leastBelow j (badIn text ends numbers absent) ≡ none)
+invariant-loop text ends numbers absent n j₀ j = (j ≤ n) × (least_below j (bad_in text ends numbers absent) ≡ none)
 
 abbrev decreases-loop : tie.decreases-loop
 decreases-loop text ends numbers absent n j₀ j = n - j
@@ -28,7 +28,7 @@ returns c =
     let a = c.before.before.before.before.before.before.before.args in
     let head = c.before.before.before.loop in
     let is = sym c.before.is-bad.ensures ∙ c.if1.true in
-    sym (least_at (badIn a.text.now a.ends.now a.numbers.now a.absent) head.j a.n head.invariant.1 is (omega arith))
+    sym (least_at (bad_in a.text.now a.ends.now a.numbers.now a.absent) head.j a.n head.invariant.1 is (omega arith))
 
 add-j : tie.Need-overflow-add-j invariant-loop decreases-loop
 add-j c = search rules
@@ -41,14 +41,14 @@ loop-again c =
     let a = c.before.before.before.before.before.before.before.args in
     let head = c.before.before.before.loop in
     let fine = sym c.before.is-bad.ensures ∙ c.if1.false in
-    (omega arith, rw (add-one head.j) (least_on (badIn a.text.now a.ends.now a.numbers.now a.absent) head.j head.invariant.1 fine))
+    (omega arith, rw (add-one head.j) (least_on (bad_in a.text.now a.ends.now a.numbers.now a.absent) head.j head.invariant.1 fine))
 
 returns-2 : tie.Need-returns-2 invariant-loop decreases-loop
 returns-2 c =
     let a = c.before.before.before.before.before.args in
     let head = c.before.loop in
     let n : a.n ≡ head.j = omega arith in
-    sym (ap (λ n. leastBelow n (badIn a.text.now a.ends.now a.numbers.now a.absent)) n ∙ head.invariant.1)
+    sym (ap (λ n. least_below n (bad_in a.text.now a.ends.now a.numbers.now a.absent)) n ∙ head.invariant.1)
 
 pub bad-of-few-spec : {M : Type 1} → statement M
 bad-of-few-spec =

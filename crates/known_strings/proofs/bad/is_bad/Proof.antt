@@ -4,7 +4,7 @@ use mathlib.Core.Bool.{◌||◌}
 use lib.Dec.{eqb}
 use lib.ListN.{get_or}
 use Rattle.theory.proofs.Lemmas.{or_left}
-use Rattle.known_strings.specs.Lent.{listedAbove}
+use Rattle.known_strings.specs.Lent.{listed_above}
 use borrow.Author.Rules.{rules}
 use Rattle.known_strings.proofs.bad.is_bad.Statement.{statement}
 use Rattle.known_strings.proofs.bad.is_bad.Tie as tie
@@ -15,7 +15,7 @@ was-listed-requires c κs = search rules
 returns : tie.Need-returns
 returns c =
     let a = c.before.before.before.before.before.args in
-    let listed = listedAbove a.text.now a.ends.now a.j in
+    let listed = listed_above a.text.now a.ends.now a.j in
     sym (or_left listed (eqb (get_or a.numbers.now a.j 0) a.absent) (sym c.before.was-listed.ensures ∙ c.if1.true))
 
 mul-result : tie.Need-overflow-mul-result

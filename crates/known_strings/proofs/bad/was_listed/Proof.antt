@@ -8,7 +8,7 @@ use native.Mathlib.Omega.{arith}
 use Rattle.theory.specs.Least.{some}
 use Rattle.theory.proofs.Lemmas.{some_of}
 use Rattle.marc.specs.Known.{same}
-use Rattle.known_strings.specs.Lent.{beginOf, stringIn}
+use Rattle.known_strings.specs.Lent.{begin_of_lem, string_in}
 use Rattle.known_strings.proofs.Entries.{begins_next, part_is}
 use Rattle.known_strings.proofs.Testing.{some_on}
 use Rattle.known_strings.proofs.bad.was_listed.Statement.{statement}
@@ -16,10 +16,10 @@ use Rattle.known_strings.proofs.bad.was_listed.Tie as tie
 
 -- string i is that at j
 abbrev like : List ℕ → List ℕ → ℕ → ℕ → Bool
-like text ends j i = same (stringIn text ends i) (stringIn text ends j)
+like text ends j i = same (string_in text ends i) (string_in text ends j)
 
 abbrev invariant-loop : tie.invariant-loop
-invariant-loop text ends j string start₀ i₀ start i = (i ≤ j) × (string ≡ stringIn text ends j) × (start ≡ beginOf ends i) × (some i (like text ends j) ≡ false)
+invariant-loop text ends j string start₀ i₀ start i = (i ≤ j) × (string ≡ string_in text ends j) × (start ≡ begin_of_lem ends i) × (some i (like text ends j) ≡ false)
 
 abbrev decreases-loop : tie.decreases-loop
 decreases-loop text ends j string start₀ i₀ start i = j - i

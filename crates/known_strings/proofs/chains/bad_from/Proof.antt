@@ -12,8 +12,8 @@ use lib.ListN.{length, get_or, set, length-set, length-replicate}
 use Rattle.theory.specs.Least.{some}
 use Rattle.theory.proofs.Lemmas.{or_right}
 use Rattle.meaning.proofs.Bits.{get_or_zeros}
-use Rattle.known_strings.specs.Lent.{stringIn, listedAbove, badIn}
-use Rattle.known_strings.specs.Chains.{digests, digestOf, block_size, ChainFrom, BadFrom}
+use Rattle.known_strings.specs.Lent.{string_in, listed_above, bad_in}
+use Rattle.known_strings.specs.Chains.{digests, digest_of, block_size, ChainFrom, BadFrom}
 use Rattle.known_strings.proofs.Chaining.{like, SoughtTo, sought_first, sought_on, sought_bad, sought_next, sought_past}
 use Rattle.known_strings.proofs.chains.bad_from.Statement.{statement}
 use Rattle.known_strings.proofs.chains.bad_from.Tie as tie
@@ -53,22 +53,22 @@ module _ (c : tie.After-digest invariant-loop decreases-loop) where
 
   -- the walk along the chain says that the string was met before
   abbrev met : Bool
-  met = some (get_or heads mark 0) (like text ends start.args.from (stringIn text ends j))
+  met = some (get_or heads mark 0) (like text ends start.args.from (string_in text ends j))
 
   sought : SoughtTo text ends numbers start.args.absent start.args.from j heads links
   sought = c.before.before.before.loop.invariant.4
 
-  mark_is : mark ≡ digestOf (stringIn text ends j)
-  mark_is = c.digest.ensures.0 ∙ ap digestOf c.before.string-at.ensures
+  mark_is : mark ≡ digest_of (string_in text ends j)
+  mark_is = c.digest.ensures.0 ∙ ap digest_of c.before.string-at.ensures
 
   within : j ≤ length ends
   within = omega (arith, start.pre.1)
 
-  chain : ChainFrom text ends start.args.from (get_or heads mark 0) links (stringIn text ends j)
+  chain : ChainFrom text ends start.args.from (get_or heads mark 0) links (string_in text ends j)
   chain = sought_on text ends numbers start.args.absent start.args.from j heads links sought mark c.digest.ensures.1 mark_is within
 
   -- none before this entry is bad
-  told-bad : badIn text ends numbers start.args.absent j ≡ true → BadFrom text ends numbers start.args.absent start.args.from start.args.end j
+  told-bad : bad_in text ends numbers start.args.absent j ≡ true → BadFrom text ends numbers start.args.absent start.args.from start.args.end j
   told-bad bad =
       record {
         not_before = c.before.before.before.loop.invariant.0;
@@ -77,7 +77,7 @@ module _ (c : tie.After-digest invariant-loop decreases-loop) where
         bad = λ l. bad;
       }
 
-  met-bad : met ≡ true → badIn text ends numbers start.args.absent j ≡ true
+  met-bad : met ≡ true → bad_in text ends numbers start.args.absent j ≡ true
   met-bad = sought_bad text ends numbers start.args.absent start.args.from j heads links sought mark c.digest.ensures.1 mark_is within
 
   module _ (new : met ≡ false) (number : eqb (get_or numbers j 0) start.args.absent ≡ false) where
@@ -139,7 +139,7 @@ shared-slice-read-if2 c = omega (arith, (start c.before.before.before.before).pr
 returns-2 : tie.Need-returns-2 invariant-loop decreases-loop
 returns-2 c =
     let turn = c.before.before.before.before.before in
-    told-bad turn (or_right (listedAbove (text turn) (ends turn) (j turn)) (eqb (get_or (numbers turn) (j turn) 0) (start turn).args.absent) (eq-eqb _ _ c.if2.true))
+    told-bad turn (or_right (listed_above (text turn) (ends turn) (j turn)) (eqb (get_or (numbers turn) (j turn) 0) (start turn).args.absent) (eq-eqb _ _ c.if2.true))
 
 sub-k : tie.Need-overflow-sub-k invariant-loop decreases-loop
 sub-k c = c.before.before.before.before.before.before.before.before.loop.invariant.0

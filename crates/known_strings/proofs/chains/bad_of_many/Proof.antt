@@ -4,9 +4,9 @@ use mathlib.Core.Path.{◌≡◌, sym, ap, ◌∙◌}
 use mathlib.Core.Bool.{true}
 use Prim.Native.Nat.{◌+◌, ◌-◌, ◌≤◌, ◌<◌}
 use native.Mathlib.Omega.{arith}
-use Rattle.theory.specs.Least.{leastBelow}
+use Rattle.theory.specs.Least.{least_below}
 use Rattle.meaning.proofs.First.{none_below, least_at}
-use Rattle.known_strings.specs.Lent.{badIn}
+use Rattle.known_strings.specs.Lent.{bad_in}
 use Rattle.known_strings.specs.Chains.{block_size, FineTo}
 use Rattle.known_strings.proofs.Chaining.{fine_joined, fine_all, bad_on}
 use Rattle.known_strings.proofs.chains.bad_of_many.Statement.{statement}
@@ -14,7 +14,7 @@ use Rattle.known_strings.proofs.chains.bad_of_many.Tie as tie
 
 abbrev invariant-loop : tie.invariant-loop
 invariant-loop text ends numbers absent n from₀ end₀ from end =
-    (from ≤ end) × (end ≤ n) × FineTo text ends numbers absent 0 (from + block_size) end × (end < n → badIn text ends numbers absent end ≡ true)
+    (from ≤ end) × (end ≤ n) × FineTo text ends numbers absent 0 (from + block_size) end × (end < n → bad_in text ends numbers absent end ≡ true)
 
 abbrev decreases-loop : tie.decreases-loop
 decreases-loop text ends numbers absent n from₀ end₀ from end = end - from
@@ -52,7 +52,7 @@ returns : tie.Need-returns invariant-loop decreases-loop
 returns c =
     let a = c.before.before.before.before.before.before.before.args in
     let head = c.before.before.loop in
-    let bad = badIn a.text.now a.ends.now a.numbers.now a.absent in
+    let bad = bad_in a.text.now a.ends.now a.numbers.now a.absent in
     let none = none_below bad head.end (fine_all a.text.now a.ends.now a.numbers.now a.absent (head.from + block_size) head.end head.invariant.2 (omega arith)) in
     sym (least_at bad head.end a.n none (head.invariant.3 c.if1.true) c.if1.true)
 
@@ -60,10 +60,10 @@ returns-2 : tie.Need-returns-2 invariant-loop decreases-loop
 returns-2 c =
     let a = c.before.before.before.before.before.before.before.args in
     let head = c.before.before.loop in
-    let bad = badIn a.text.now a.ends.now a.numbers.now a.absent in
+    let bad = bad_in a.text.now a.ends.now a.numbers.now a.absent in
     let all : a.n ≡ head.end = omega (arith, head.invariant.1) in
     let none = none_below bad head.end (fine_all a.text.now a.ends.now a.numbers.now a.absent (head.from + block_size) head.end head.invariant.2 (omega arith)) in
-    sym (ap (λ n. leastBelow n bad) all ∙ none)
+    sym (ap (λ n. least_below n bad) all ∙ none)
 
 pub bad-of-many-spec : {M : Type 1} → statement M
 bad-of-many-spec =

@@ -4,13 +4,13 @@ use mathlib.Core.Path.{◌≡◌, refl, sym, ◌∙◌}
 use Prim.Native.Nat.{◌-◌, ◌≤◌, ◌<◌}
 use native.Mathlib.Omega.{arith}
 use lib.ListN.{length, drop}
-use Rattle.known_strings.specs.Chains.{digests, digest_from, digestOf}
+use Rattle.known_strings.specs.Chains.{digests, digest_from, digest_of}
 use Rattle.known_strings.proofs.Chaining.{digest_on, digest_ends}
 use Rattle.known_strings.proofs.chains.digest.Statement.{statement}
 use Rattle.known_strings.proofs.chains.digest.Tie as tie
 
 abbrev invariant-loop : tie.invariant-loop
-invariant-loop string n sum₀ k₀ sum k = (n ≡ length string) × (k ≤ n) × (sum < digests) × (digest_from sum (drop k string) ≡ digestOf string)
+invariant-loop string n sum₀ k₀ sum k = (n ≡ length string) × (k ≤ n) × (sum < digests) × (digest_from sum (drop k string) ≡ digest_of string)
 
 abbrev decreases-loop : tie.decreases-loop
 decreases-loop string n sum₀ k₀ sum k = n - k

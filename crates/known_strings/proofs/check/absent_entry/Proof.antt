@@ -8,13 +8,13 @@ use native.Mathlib.Numerals.{add-one}
 use native.Mathlib.Omega.{arith}
 use lib.Dec.{eqb}
 use lib.ListN.{get_or}
-use Rattle.theory.specs.Least.{leastBelow}
+use Rattle.theory.specs.Least.{least_below}
 use Rattle.meaning.proofs.First.{least_on, least_at}
 use Rattle.known_strings.proofs.check.absent_entry.Statement.{statement}
 use Rattle.known_strings.proofs.check.absent_entry.Tie as tie
 
 abbrev invariant-loop : tie.invariant-loop
-invariant-loop numbers n absent j₀ j = (j ≤ n) × (leastBelow j (λ i. eqb (get_or numbers i 0) absent) ≡ none)
+invariant-loop numbers n absent j₀ j = (j ≤ n) × (least_below j (λ i. eqb (get_or numbers i 0) absent) ≡ none)
 
 abbrev decreases-loop : tie.decreases-loop
 decreases-loop numbers n absent j₀ j = n - j
@@ -51,7 +51,7 @@ returns-2 c =
     let a = c.before.before.args in
     let head = c.before.loop in
     let n : a.n ≡ head.j = omega arith in
-    sym (ap (λ n. leastBelow n (λ i. eqb (get_or a.numbers.now i 0) a.absent)) n ∙ head.invariant.1)
+    sym (ap (λ n. least_below n (λ i. eqb (get_or a.numbers.now i 0) a.absent)) n ∙ head.invariant.1)
 
 pub absent-entry-spec : {M : Type 1} → statement M
 absent-entry-spec =

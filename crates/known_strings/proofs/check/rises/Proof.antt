@@ -6,13 +6,13 @@ use Prim.Native.Nat.{◌+◌, ◌≤◌, ◌-◌}
 use native.Mathlib.Omega.{arith}
 use Rattle.marc.specs.Order.{before}
 use Rattle.known_strings.specs.Compared.{ComparedAs}
-use Rattle.known_strings.specs.Lent.{stringIn, RisesTo}
+use Rattle.known_strings.specs.Lent.{string_in, RisesTo}
 use Rattle.known_strings.proofs.Testing.{rises_on}
 use Rattle.known_strings.proofs.check.rises.Statement.{statement}
 use Rattle.known_strings.proofs.check.rises.Tie as tie
 
 abbrev invariant-loop : tie.invariant-loop
-invariant-loop text ends n last₀ j₀ last j = (1 ≤ j) × (last ≡ stringIn text ends (j - 1)) × RisesTo text ends j
+invariant-loop text ends n last₀ j₀ last j = (1 ≤ j) × (last ≡ string_in text ends (j - 1)) × RisesTo text ends j
 
 abbrev decreases-loop : tie.decreases-loop
 decreases-loop text ends n last₀ j₀ last j = n - j
@@ -53,7 +53,7 @@ loop-again c =
     let next = c.before.before.before.string-at2.ensures in
     let here : head.j + 1 - 1 ≡ head.j = omega arith in
     let rose = subst (ComparedAs head.last.now c.before.before.before.string-at2.result.now) c.enum_told.given.1 c.before.before.compare.ensures in
-    (omega arith, next ∙ ap (stringIn t e) (sym here), rises_on t e head.j (omega arith) head.invariant.2 (ap₂ before (sym head.invariant.1) (sym next) ∙ rose))
+    (omega arith, next ∙ ap (string_in t e) (sym here), rises_on t e head.j (omega arith) head.invariant.2 (ap₂ before (sym head.invariant.1) (sym next) ∙ rose))
 
 returns-3 : tie.Need-returns-3 invariant-loop decreases-loop
 returns-3 c = λ q i l. c.before.loop.invariant.2 i (omega arith)

@@ -4,7 +4,7 @@ use mathlib.Core.Path.{◌≡◌}
 use Prim.Native.Nat.{◌≤◌, ◌<◌, ◌-◌, min}
 use native.Mathlib.Omega.{arith}
 use lib.ListN.{length, drop}
-use Rattle.known_strings.specs.Compared.{writtenAt, ComparedAs}
+use Rattle.known_strings.specs.Compared.{written_at, ComparedAs}
 use Rattle.known_strings.specs.declared.compare.Order.{Order}
 use Rattle.known_strings.specs.declared.compare.Order.TheVariants.{Before, After}
 use Rattle.known_strings.proofs.Words.{Bytes, same_number, lower_number}
@@ -44,7 +44,7 @@ returns c =
     let a = c.before.before.before.before.before.before.before.before.args in
     let head = c.before.before.before.before.loop in
     let bytes = all-bytes c.before in
-    let l : writtenAt a.one.now head.k 4 < writtenAt a.two.now head.k 4 = omega (arith, c.before.before.four-at.ensures, c.before.four-at2.ensures) in
+    let l : written_at a.one.now head.k 4 < written_at a.two.now head.k 4 = omega (arith, c.before.before.four-at.ensures, c.before.four-at2.ensures) in
     head.invariant.2 Before (lower_number a.one.now a.two.now bytes.0 bytes.1 head.k 4 (omega arith) (omega arith) l)
 
 returns-2 : tie.Need-returns-2 invariant-loop decreases-loop
@@ -52,7 +52,7 @@ returns-2 c =
     let a = c.before.before.before.before.before.before.before.before.before.args in
     let head = c.before.before.before.before.before.loop in
     let bytes = all-bytes c.before.before in
-    let l : writtenAt a.two.now head.k 4 < writtenAt a.one.now head.k 4 = omega (arith, c.before.before.before.four-at.ensures, c.before.before.four-at2.ensures) in
+    let l : written_at a.two.now head.k 4 < written_at a.one.now head.k 4 = omega (arith, c.before.before.before.four-at.ensures, c.before.before.four-at2.ensures) in
     head.invariant.2 After (lower_number a.two.now a.one.now bytes.1 bytes.0 head.k 4 (omega arith) (omega arith) l)
 
 add-k : tie.Need-overflow-add-k invariant-loop decreases-loop
@@ -66,7 +66,7 @@ loop-again c =
     let a = c.before.before.before.before.before.before.before.before.before.args in
     let head = c.before.before.before.before.before.loop in
     let bytes = all-bytes c.before.before in
-    let e : writtenAt a.one.now head.k 4 ≡ writtenAt a.two.now head.k 4 = omega (arith, c.before.before.before.four-at.ensures, c.before.before.four-at2.ensures) in
+    let e : written_at a.one.now head.k 4 ≡ written_at a.two.now head.k 4 = omega (arith, c.before.before.before.four-at.ensures, c.before.before.four-at2.ensures) in
     (head.invariant.0, omega arith, λ r p. head.invariant.2 r (same_number a.one.now a.two.now bytes.0 bytes.1 head.k 4 (omega arith) (omega arith) e r p))
 
 compare-from-requires : tie.Need-compare-from-requires invariant-loop decreases-loop

@@ -7,7 +7,7 @@ use lib.ListN.{length}
 use Rattle.marc.specs.Known.{known_in}
 use Rattle.marc.proofs.Strings.{true_same}
 use Rattle.known_strings.specs.Compared.{ComparedAs}
-use Rattle.known_strings.specs.Lent.{stringIn}
+use Rattle.known_strings.specs.Lent.{string_in}
 use Rattle.known_strings.specs.declared.compare.Order.{Order}
 use Rattle.known_strings.proofs.Seeking.{Between, go_up, go_down, none_below, none_between, found_at, found_none}
 use Rattle.known_strings.proofs.seek.halve.Statement.{statement}
@@ -25,12 +25,12 @@ decreases-loop text ends numbers string low₀ high₀ low high = high - low
 told : (c : tie.After-compare invariant-loop decreases-loop) (r : Order) → c.compare.result ≡ r
     → let a = c.before.before.before.before.before.before.before.before.before.args in
     let head = c.before.before.before.loop in
-    ComparedAs (stringIn a.text.now a.ends.now (head.low + (head.high - head.low) / 2)) a.string.now r
+    ComparedAs (string_in a.text.now a.ends.now (head.low + (head.high - head.low) / 2)) a.string.now r
 told c r e =
     let a = c.before.before.before.before.before.before.before.before.before.args in
     let here = subst (λ x. ComparedAs x a.string.now c.compare.result) c.before.string-at.ensures c.compare.ensures in
     let head = c.before.before.before.loop in
-    subst (ComparedAs (stringIn a.text.now a.ends.now (head.low + (head.high - head.low) / 2)) a.string.now) e here
+    subst (ComparedAs (string_in a.text.now a.ends.now (head.low + (head.high - head.low) / 2)) a.string.now) e here
 
 count-requires : tie.Need-count-requires invariant-loop decreases-loop
 count-requires c κs = search rules
@@ -94,7 +94,7 @@ returns c =
     let is = told c.before.before.before _ c.before.enum-told2.given.1 in
     let middle = head.low + (head.high - head.low) / 2 in
     let inside : middle < length (known_in t e m) = omega (arith, head.invariant.1) in
-    found_at t e m s middle inside (none_below t e s (length (known_in t e m)) rising middle inside is) (true_same (stringIn t e middle) s is)
+    found_at t e m s middle inside (none_below t e s (length (known_in t e m)) rising middle inside is) (true_same (string_in t e middle) s is)
 
 enum-told-3 : tie.Need-enum-told-3 invariant-loop decreases-loop
 enum-told-3 c = search rules

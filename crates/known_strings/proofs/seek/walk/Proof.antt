@@ -5,14 +5,14 @@ use Prim.Native.Nat.{◌≤◌, ◌-◌}
 use native.Mathlib.Omega.{arith}
 use lib.ListN.{length}
 use Rattle.marc.specs.Known.{same, known_in}
-use Rattle.known_strings.specs.Lent.{beginOf, stringIn}
+use Rattle.known_strings.specs.Lent.{begin_of_lem, string_in}
 use Rattle.known_strings.proofs.Entries.{begins_next, part_is}
 use Rattle.known_strings.proofs.Seeking.{NoneTo, none_on, found_at, found_none}
 use Rattle.known_strings.proofs.seek.walk.Statement.{statement}
 use Rattle.known_strings.proofs.seek.walk.Tie as tie
 
 abbrev invariant-loop : tie.invariant-loop
-invariant-loop text ends numbers string n start₀ j₀ start j = (length (known_in text ends numbers) ≡ n) × (n ≤ length ends) × (n ≤ length numbers) × (j ≤ n) × (start ≡ beginOf ends j) × NoneTo text ends string j
+invariant-loop text ends numbers string n start₀ j₀ start j = (length (known_in text ends numbers) ≡ n) × (n ≤ length ends) × (n ≤ length numbers) × (j ≤ n) × (start ≡ begin_of_lem ends j) × NoneTo text ends string j
 
 abbrev decreases-loop : tie.decreases-loop
 decreases-loop text ends numbers string n start₀ j₀ start j = n - j
@@ -20,7 +20,7 @@ decreases-loop text ends numbers string n start₀ j₀ start j = n - j
 -- what the comparison says of string j
 told : (c : tie.After-same-bytes invariant-loop decreases-loop)
     → let a = c.before.before.before.before.before.before.before.before.before.before.args in
-    same (stringIn a.text.now a.ends.now c.before.before.before.before.loop.j) a.string.now ≡ c.same_bytes.result
+    same (string_in a.text.now a.ends.now c.before.before.before.before.loop.j) a.string.now ≡ c.same_bytes.result
 told c =
     let a = c.before.before.before.before.before.before.before.before.before.before.args in
     let head = c.before.before.before.before.loop in

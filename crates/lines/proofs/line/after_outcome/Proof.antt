@@ -1,6 +1,6 @@
 -- Only a match has variables' lines.
 use borrow.Author.Rules.{rules}
-use Rattle.lines.specs.Lines.{afterOutcome}
+use Rattle.lines.specs.Lines.{after_outcome_lem}
 use Rattle.lines.proofs.line.after_outcome.Statement.{statement}
 use Rattle.lines.proofs.line.after_outcome.Tie as tie
 
@@ -14,11 +14,11 @@ enum-told-2 : tie.Need-enum-told-2
 enum-told-2 c = search rules
 
 returns : tie.Need-returns
-unfolding afterOutcome
+unfolding after_outcome_lem
 returns c = rw c.before.enum_told.given.1 c.seek.ensures
 
 returns-2 : tie.Need-returns-2
-unfolding afterOutcome
+unfolding after_outcome_lem
 returns-2 c = rw c.enum-told2.given.1
 
 pub after-outcome-spec : {M : Type 1} → statement M

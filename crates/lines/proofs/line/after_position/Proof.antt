@@ -3,14 +3,14 @@ use borrow.Author.Rules.{rules}
 use borrow.Author.Tests.{lt-ltb, le-ltb}
 use Prim.Native.Nat.{◌+◌, ◌*◌}
 use native.Mathlib.Omega.{arith}
-use Rattle.meaning.specs.Limits.{spanWidth}
-use Rattle.meaning.specs.Buffers.{positionCount}
-use Rattle.lines.specs.Lines.{afterPosition}
+use Rattle.meaning.specs.Limits.{span_width}
+use Rattle.meaning.specs.Buffers.{position_count_lem}
+use Rattle.lines.specs.Lines.{after_position_lem}
 use Rattle.lines.proofs.line.after_position.Statement.{statement}
 use Rattle.lines.proofs.line.after_position.Tie as tie
 
 add-if1 : tie.Need-overflow-add-if1
-add-if1 c = let v = c.before.args.v in omega (arith, c.shared-slice-known.given (spanWidth * v + 1))
+add-if1 c = let v = c.before.args.v in omega (arith, c.shared-slice-known.given (span_width * v + 1))
 
 position-count-requires : tie.Need-position-count-requires
 position-count-requires c κs = search rules
@@ -25,16 +25,16 @@ seek-requires : tie.Need-seek-requires
 seek-requires c κs = search rules
 
 returns : tie.Need-returns
-unfolding afterPosition
+unfolding after_position_lem
 returns c =
     let a = c.before.before.before.args in
-    rw (lt-ltb (a.k + 1) (positionCount a.spans.now a.v) (omega arith))
+    rw (lt-ltb (a.k + 1) (position_count_lem a.spans.now a.v) (omega arith))
 
 returns-2 : tie.Need-returns-2
-unfolding afterPosition
+unfolding after_position_lem
 returns-2 c =
     let a = c.before.before.before.before.args in
-    rw (le-ltb (a.k + 1) (positionCount a.spans.now a.v) (omega arith)) c.seek.ensures
+    rw (le-ltb (a.k + 1) (position_count_lem a.spans.now a.v) (omega arith)) c.seek.ensures
 
 pub after-position-spec : {M : Type 1} → statement M
 after-position-spec =

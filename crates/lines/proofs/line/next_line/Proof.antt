@@ -3,18 +3,18 @@ use borrow.Author.Rules.{rules}
 use mathlib.Core.Path.{refl, subst}
 use Prim.Native.Nat.{◌<◌}
 use native.Mathlib.Omega.{arith}
-use Rattle.meaning.specs.Limits.{variableCount}
-use Rattle.meaning.specs.Buffers.{positionCount}
+use Rattle.meaning.specs.Limits.{variable_count}
+use Rattle.meaning.specs.Buffers.{position_count_lem}
 use Rattle.lines.specs.Lines.{OnLine}
 use Rattle.lines.proofs.Putting.{text_first, text_variable, text_position}
 use Rattle.lines.proofs.line.next_line.Statement.{statement}
 use Rattle.lines.proofs.line.next_line.Tie as tie
 
 -- what the cursor's case says of its variable
-there : (c : tie.After-cursor) → (c.cursor.given.0.0 < variableCount) × (0 < positionCount c.before.before.before.before.before.args.spans.now c.cursor.given.0.0)
+there : (c : tie.After-cursor) → (c.cursor.given.0.0 < variable_count) × (0 < position_count_lem c.before.before.before.before.before.args.spans.now c.cursor.given.0.0)
 there c = let s = c.before.before.before.before.before in subst (OnLine s.args.spans.now) c.cursor.given.1 s.requires.1
 
-place : (c : tie.After-cursor2) → (c.cursor2.given.0.0 < variableCount) × (c.cursor2.given.0.1.0 < positionCount c.before.before.before.before.before.args.spans.now c.cursor2.given.0.0)
+place : (c : tie.After-cursor2) → (c.cursor2.given.0.0 < variable_count) × (c.cursor2.given.0.1.0 < position_count_lem c.before.before.before.before.before.args.spans.now c.cursor2.given.0.0)
 place c = let s = c.before.before.before.before.before in subst (OnLine s.args.spans.now) c.cursor2.given.1 s.requires.1
 
 enum_told : tie.Need-enum-told

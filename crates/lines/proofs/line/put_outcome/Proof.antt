@@ -2,7 +2,7 @@
 use borrow.Author.Rules.{rules}
 use mathlib.Core.Path.{sym}
 use Rattle.text.specs.Texts.{numeral}
-use Rattle.lines.specs.Lines.{outcomeLine}
+use Rattle.lines.specs.Lines.{outcome_line}
 use Rattle.lines.proofs.line.put_outcome.Statement.{statement}
 use Rattle.lines.proofs.line.put_outcome.Tie as tie
 
@@ -34,14 +34,14 @@ same_length : tie.Need-same-length
 same_length c = search rules
 
 returns : tie.Need-returns
-unfolding outcomeLine numeral
+unfolding outcome_line numeral
 returns c = rw c.before.before.before.before.before.before.outcome.given.1 c.before.before.put-fields.ensures
 
 same-length-2 : tie.Need-same-length-2
 same-length-2 c = search rules
 
 returns-2 : tie.Need-returns-2
-unfolding outcomeLine numeral
+unfolding outcome_line numeral
 returns-2 c =
     let n = c.before.before.before.before.number.ensures in
     let p = c.before.before.before.place.ensures in

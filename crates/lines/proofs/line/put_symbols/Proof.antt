@@ -5,7 +5,7 @@ use mathlib.Core.Bool.{true}
 use Prim.Native.Nat.{◌+◌, ◌*◌, ◌-◌, ◌≤◌, ◌<◌}
 use native.Mathlib.Omega.{arith}
 use lib.ListN.{length}
-use Rattle.meaning.specs.Limits.{setRoom}
+use Rattle.meaning.specs.Limits.{set_room}
 use Rattle.meaning.specs.Buffers.{member}
 use Rattle.text.specs.Texts.{PutBy}
 use Rattle.text.proofs.Puts.{put_none, put_then}
@@ -15,11 +15,11 @@ use Rattle.lines.proofs.line.put_symbols.Tie as tie
 
 abbrev invariant-loop : tie.invariant-loop
 invariant-loop out₀ start sets position set at₀ k₀ out at k =
-    (k ≤ setRoom) × (k < setRoom → member set.words k ≡ true) × (at ≤ start + 6 * k) × (length out ≡ length out₀)
+    (k ≤ set_room) × (k < set_room → member set.words k ≡ true) × (at ≤ start + 6 * k) × (length out ≡ length out₀)
     × PutBy out₀ start (symbols_below sets position k) at out
 
 abbrev decreases-loop : tie.decreases-loop
-decreases-loop out₀ start sets position set at₀ k₀ out at k = setRoom - k
+decreases-loop out₀ start sets position set at₀ k₀ out at k = set_room - k
 
 mul-read : tie.Need-overflow-mul-read invariant-loop decreases-loop
 mul-read c = search rules
@@ -75,7 +75,7 @@ returns : tie.Need-returns invariant-loop decreases-loop
 returns c =
     let a = c.before.before.before.before.before.before.before.before.before.before.args in
     let loop = c.before.before.before.before.before.loop in
-    let all : loop.k ≡ setRoom = omega arith in
+    let all : loop.k ≡ set_room = omega arith in
     rw (symbols_all a.sets.now a.position) (put_then (subst (λ k. PutBy a.out.now a.start (symbols_below a.sets.now a.position k) loop.at loop.out) all loop.invariant.4) c.before.before.put_byte.ensures loop.invariant.3)
 
 pub put-symbols-spec : {M : Type 1} → statement M

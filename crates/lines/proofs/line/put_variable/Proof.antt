@@ -1,7 +1,7 @@
 -- The letter is put before the number, with no space between; each part behind those before it.
 use borrow.Author.Rules.{rules}
 use Rattle.text.specs.Texts.{numeral}
-use Rattle.lines.specs.Lines.{variableLine}
+use Rattle.lines.specs.Lines.{variable_line}
 use Rattle.text.proofs.Puts.{put_then}
 use Rattle.lines.proofs.line.put_variable.Statement.{statement}
 use Rattle.lines.proofs.line.put_variable.Tie as tie
@@ -37,7 +37,7 @@ same_length : tie.Need-same-length
 same_length c = search rules
 
 returns : tie.Need-returns
-unfolding variableLine numeral
+unfolding variable_line numeral
 returns c =
     let numbers = c.before.before in
     let gap-2 = numbers.before.before.before.before in
@@ -48,7 +48,7 @@ returns c =
     let highest = x.before.before in
     let lowest = highest.before in
     let found = lowest.before in
-    let degrees = rw (lowest.own_lowest_lem.ensures, highest.own_highest_lem.ensures) at numbers.put-numbers.ensures in
+    let degrees = rw (lowest.own_lowest_lem-is.ensures, highest.own_highest_lem-is.ensures) at numbers.put-numbers.ensures in
     let from-count = put_then (rw found.position-count.ensures at count.put-number2.ensures.0) (put_then gap-2.put-byte3.ensures degrees gap-2.put-byte3.auto.0) count.put-number2.auto.0 in
     let from-v = put_then v.put-number.ensures.0 (put_then gap.put-byte2.ensures from-count gap.put-byte2.auto.0) v.put-number.auto.0 in
     put_then x.put_byte.ensures from-v x.put_byte.auto.0

@@ -3,17 +3,17 @@ use borrow.Author.Rules.{rules}
 use mathlib.Core.Path.{◌≡◌, refl, sym, ◌∙◌}
 use Prim.Native.Nat.{◌-◌, ◌≤◌}
 use native.Mathlib.Omega.{arith}
-use Rattle.meaning.specs.Limits.{variableCount}
-use Rattle.lines.specs.Lines.{seekFrom}
+use Rattle.meaning.specs.Limits.{variable_count}
+use Rattle.lines.specs.Lines.{seek_from}
 use Rattle.lines.proofs.Seeking.{seek_here, seek_past, seek_end}
 use Rattle.lines.proofs.line.seek.Statement.{statement}
 use Rattle.lines.proofs.line.seek.Tie as tie
 
 abbrev invariant-loop : tie.invariant-loop
-invariant-loop spans first v₀ v = (v ≤ variableCount) × (seekFrom spans v ≡ seekFrom spans first)
+invariant-loop spans first v₀ v = (v ≤ variable_count) × (seek_from spans v ≡ seek_from spans first)
 
 abbrev decreases-loop : tie.decreases-loop
-decreases-loop spans first v₀ v = variableCount - v
+decreases-loop spans first v₀ v = variable_count - v
 
 loop-holds : tie.Need-loop-init invariant-loop decreases-loop
 loop-holds c = (omega arith, refl)

@@ -7,7 +7,7 @@ use mathlib.Core.Bool.{false}
 use Prim.Native.Nat.{◌-◌, ◌<◌}
 use native.Mathlib.Omega.{arith}
 use lib.ListN.{length, get_or}
-use Rattle.marc.specs.Frame.{isDigit}
+use Rattle.marc.specs.Frame.{is_digit_lem}
 use Rattle.marc.proofs.Numerals.{Digit}
 use Rattle.list_file.proofs.Numbers.{Passing, passing_none, never_ended, value_ended, no_digit, leading_zero, too_high, passing_on}
 use Rattle.list_file.proofs.numeral.read_number.Statement.{statement}
@@ -29,7 +29,7 @@ is-digit-requires : tie.Need-is-digit-requires invariant-loop decreases-loop
 is-digit-requires c κs = search rules
 
 -- the byte is no digit
-other : (c : tie.Then1 invariant-loop decreases-loop) → isDigit (get_or c.before.before.before.before.before.before.args.file.now c.before.before.before.before.loop.i 0) ≡ false
+other : (c : tie.Then1 invariant-loop decreases-loop) → is_digit_lem (get_or c.before.before.before.before.before.before.args.file.now c.before.before.before.before.loop.i 0) ≡ false
 other c = sym c.before.is_digit.ensures ∙ not_true _ c.if1.true
 
 -- the byte is a digit

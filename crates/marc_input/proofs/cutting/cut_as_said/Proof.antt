@@ -2,7 +2,7 @@
 use borrow.Author.Rules.{rules}
 use mathlib.Core.Path.{sym, ◌∙◌}
 use native.Mathlib.Omega.{arith}
-use Rattle.marc.specs.Stream.{comingIn}
+use Rattle.marc.specs.Stream.{coming_in}
 use Rattle.marc_input.proofs.Following.{filled_more}
 use Rattle.marc_input.proofs.Said.{cut_other, cut_there}
 use Rattle.marc_input.proofs.Next.{filled_comes}
@@ -51,7 +51,7 @@ returns-2 c =
     let s = c.before.before.before.before.before.before.before.before.before.before.before.before in
     let fill = c.before.before.before.before.before.before.before.before.before.fill in
     let cut = c.before.before.cut-at-mark in
-    filled_comes comingIn _ s.args.rest s.args.count fill.result fill.new.0 fill.ensures
+    filled_comes coming_in _ s.args.rest s.args.count fill.result fill.new.0 fill.ensures
     cut.result cut.new.0 cut.ensures
 
 pub cut-as-said-spec : {M : Type 1} → statement M

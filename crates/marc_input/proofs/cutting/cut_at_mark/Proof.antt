@@ -2,7 +2,7 @@
 use borrow.Author.Rules.{rules}
 use mathlib.Core.Path.{subst}
 use native.Mathlib.Omega.{arith}
-use Rattle.marc_input.specs.Passing.{behindMark, PassedBy}
+use Rattle.marc_input.specs.Passing.{behind_mark, PassedBy}
 use Rattle.marc_input.proofs.Ends.{used_up, cut_marked, cut_ended, cut_passed, cut_endless}
 use Rattle.marc_input.proofs.cutting.cut_at_mark.Statement.{statement}
 use Rattle.marc_input.proofs.cutting.cut_at_mark.Tie as tie
@@ -58,7 +58,7 @@ returns-3 c =
     let passed = c.before.before.before.before.before.pass-record in
     cut_passed _ s.args.rest s.requires.1 s.requires.0 s.requires.3 fill.result fill.new.0 fill.ensures found.result found.ensures
     (omega (arith, found.ensures.inside)) c.before.before.before.before.before.before.before.if2.false c.before.left.given.0.0 passed.new.0
-    (subst (λ r. PassedBy behindMark fill.new.0 (used_up fill.result) r passed.new.0) c.before.left.given.1 passed.ensures)
+    (subst (λ r. PassedBy behind_mark fill.new.0 (used_up fill.result) r passed.new.0) c.before.left.given.1 passed.ensures)
 
 same-length-4 : tie.Need-same-length-4
 same-length-4 c = search rules
@@ -71,7 +71,7 @@ returns-4 c =
     let passed = c.before.before.before.before.pass-record in
     cut_endless _ s.args.rest s.requires.1 s.requires.0 s.requires.3 fill.result fill.new.0 fill.ensures found.result found.ensures
     (omega (arith, found.ensures.inside)) passed.new.0
-    (subst (λ r. PassedBy behindMark fill.new.0 (used_up fill.result) r passed.new.0) c.enum_told.given.1 passed.ensures)
+    (subst (λ r. PassedBy behind_mark fill.new.0 (used_up fill.result) r passed.new.0) c.enum_told.given.1 passed.ensures)
 
 pub cut-at-mark-spec : {M : Type 1} → statement M
 cut-at-mark-spec =

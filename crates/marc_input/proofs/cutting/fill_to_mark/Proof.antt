@@ -3,7 +3,7 @@ use borrow.Author.Rules.{rules}
 use Prim.Native.Nat.{◌-◌}
 use native.Mathlib.Omega.{arith}
 use borrow.Author.Tests.{leb-true, leb-false, not_true, not-false}
-use Rattle.marc_input.specs.Cuts.{mostBytes}
+use Rattle.marc_input.specs.Cuts.{most_bytes}
 use Rattle.marc_input.proofs.Following.{filled_more}
 use Rattle.marc_input.proofs.Seeking.{Seeking, reads_left, fewer_left, seeking_first, seeking_on, sought_there, sought_over, sought_many}
 use Rattle.marc_input.proofs.cutting.fill_to_mark.Statement.{statement}
@@ -34,7 +34,7 @@ fill-requires : tie.Need-fill-requires invariant-loop decreases-loop
 fill-requires c κs =
     let loop = c.before.before.before.before.before.before.before.before.loop in
     let room = c.before.before.before.before.before.before.before.before.before.before.before.before.requires.1 in
-    (loop.invariant.read.held, omega (arith, loop.invariant.read.same, room, leb-true (loop.now.end - loop.now.at) mostBytes c.before.before.if3.true))
+    (loop.invariant.read.held, omega (arith, loop.invariant.read.same, room, leb-true (loop.now.end - loop.now.at) most_bytes c.before.before.if3.true))
 
 add-find-mark : tie.Need-overflow-add-find-mark invariant-loop decreases-loop
 add-find-mark c =
@@ -56,7 +56,7 @@ loop-less c =
     let fill = c.before.before.before.before.before.fill in
     fewer_left loop.buffer loop.now fill.result fill.new.0
     (not_true _ c.before.before.before.before.before.before.before.before.before.before.if2.true)
-    (leb-true (loop.now.end - loop.now.at) mostBytes c.before.before.before.before.before.before.before.before.if3.true)
+    (leb-true (loop.now.end - loop.now.at) most_bytes c.before.before.before.before.before.before.before.before.if3.true)
     fill.ensures
 
 loop-again : tie.Need-loop-preserved invariant-loop decreases-loop
@@ -75,7 +75,7 @@ returns : tie.Need-returns invariant-loop decreases-loop
 returns c =
     let s = c.before.before.before.before.before.before.before.before.before.before in
     let loop = c.before.before.before.before.before.before.loop in
-    sought_many _ s.args.rest loop.buffer loop.now loop.mark loop.invariant (leb-false (loop.now.end - loop.now.at) mostBytes c.if3.false)
+    sought_many _ s.args.rest loop.buffer loop.now loop.mark loop.invariant (leb-false (loop.now.end - loop.now.at) most_bytes c.if3.false)
 
 same-length-2 : tie.Need-same-length-2 invariant-loop decreases-loop
 same-length-2 c = c.before.before.before.before.loop.invariant.read.same

@@ -2,7 +2,7 @@
 use borrow.Author.Rules.{rules}
 use mathlib.Core.Path.{subst, ◌∙◌}
 use native.Mathlib.Omega.{arith}
-use Rattle.marc.specs.Stream.{behindBreaks, comingIn}
+use Rattle.marc.specs.Stream.{behind_breaks, coming_in}
 use Rattle.marc_input.specs.declared.cutting.Cut.TheVariants.{Ended}
 use Rattle.marc_input.specs.Passing.{PassedBy}
 use Rattle.marc_input.proofs.Next.{filled_comes, passed_comes, none_comes}
@@ -23,7 +23,7 @@ fill-requires c κs =
     let s = c.before.before.before.before.before.before.before.before.before in
     let pass = c.before.before.before.before.before.before.pass-breaks in
     let begun = c.before.before.begun.given in
-    let passed = subst (λ r. PassedBy behindBreaks s.args.buffer.now s.args.rest r pass.new.0) begun.1 pass.ensures in
+    let passed = subst (λ r. PassedBy behind_breaks s.args.buffer.now s.args.rest r pass.new.0) begun.1 pass.ensures in
     (passed.read.held, omega (arith, pass.auto.0, s.requires.1))
 
 same_length : tie.Need-same-length
@@ -35,9 +35,9 @@ returns c =
     let pass = c.before.before.before.before.before.before.before.before.before.before.before.pass-breaks in
     let begun = c.before.before.before.before.before.before.before.begun.given in
     let fill = c.before.before.before.before.fill in
-    let passed = subst (λ r. PassedBy behindBreaks s.args.buffer.now s.args.rest r pass.new.0) begun.1 pass.ensures in
+    let passed = subst (λ r. PassedBy behind_breaks s.args.buffer.now s.args.rest r pass.new.0) begun.1 pass.ensures in
     passed_comes _ s.args.rest begun.0.0 pass.new.0 passed Ended fill.new.0
-    (filled_comes comingIn pass.new.0 begun.0.0 5 fill.result fill.new.0 fill.ensures Ended fill.new.0 (none_comes fill.new.0 fill.result (omega arith)))
+    (filled_comes coming_in pass.new.0 begun.0.0 5 fill.result fill.new.0 fill.ensures Ended fill.new.0 (none_comes fill.new.0 fill.result (omega arith)))
 
 said-length-requires : tie.Need-said-length-requires
 said-length-requires c κs = let fill = c.before.before.before.before.before.fill in (fill.ensures.read.held, fill.ensures.enough)
@@ -67,9 +67,9 @@ returns-2 c =
     let begun = c.before.before.before.before.before.before.before.before.before.before.before.before.before.before.begun.given in
     let fill = c.before.before.before.before.before.before.before.before.before.before.before.fill in
     let cut = c.before.before.cut-at-mark in
-    let passed = subst (λ r. PassedBy behindBreaks s.args.buffer.now s.args.rest r pass.new.0) begun.1 pass.ensures in
+    let passed = subst (λ r. PassedBy behind_breaks s.args.buffer.now s.args.rest r pass.new.0) begun.1 pass.ensures in
     passed_comes _ s.args.rest begun.0.0 pass.new.0 passed cut.result cut.new.0
-    (filled_comes comingIn pass.new.0 begun.0.0 5 fill.result fill.new.0 fill.ensures cut.result cut.new.0 cut.ensures)
+    (filled_comes coming_in pass.new.0 begun.0.0 5 fill.result fill.new.0 fill.ensures cut.result cut.new.0 cut.ensures)
 
 cut-as-said-requires : tie.Need-cut-as-said-requires
 cut-as-said-requires c κs =
@@ -89,7 +89,7 @@ returns-3 : tie.Need-returns-3
 returns-3 c =
     let s = c.before.before.before.before.before.before.before in
     let pass = c.before.before.before.before.pass-breaks in
-    subst (λ r. PassedBy behindBreaks s.args.buffer.now s.args.rest r pass.new.0) c.enum_told.given.1 pass.ensures
+    subst (λ r. PassedBy behind_breaks s.args.buffer.now s.args.rest r pass.new.0) c.enum_told.given.1 pass.ensures
 
 same-length-4 : tie.Need-same-length-4
 same-length-4 c =
@@ -104,9 +104,9 @@ returns-4 c =
     let begun = c.before.before.before.before.before.before.before.before.before.before.before.before.before.before.begun.given in
     let fill = c.before.before.before.before.before.before.before.before.before.before.before.fill in
     let cut = c.before.before.cut-as-said in
-    let passed = subst (λ r. PassedBy behindBreaks s.args.buffer.now s.args.rest r pass.new.0) begun.1 pass.ensures in
+    let passed = subst (λ r. PassedBy behind_breaks s.args.buffer.now s.args.rest r pass.new.0) begun.1 pass.ensures in
     passed_comes _ s.args.rest begun.0.0 pass.new.0 passed cut.result cut.new.0
-    (filled_comes comingIn pass.new.0 begun.0.0 5 fill.result fill.new.0 fill.ensures cut.result cut.new.0 cut.ensures)
+    (filled_comes coming_in pass.new.0 begun.0.0 5 fill.result fill.new.0 fill.ensures cut.result cut.new.0 cut.ensures)
 
 pub next-record-spec : {M : Type 1} → statement M
 next-record-spec =

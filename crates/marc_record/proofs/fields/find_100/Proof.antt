@@ -5,7 +5,7 @@ use mathlib.Core.Option.{some as just}
 use Prim.Native.Nat.{◌+◌, ◌*◌, ◌-◌, ◌/◌, ◌≤◌, ◌<◌}
 use native.Mathlib.Omega.{arith}
 use lib.ListN.{length, take, drop}
-use Rattle.marc.specs.Frame.{baseAddress, entry_count, field_length, field_at, fields_from, fields_in}
+use Rattle.marc.specs.Frame.{base_address, entry_count, field_length, field_at, fields_from, fields_in}
 use Rattle.marc.specs.Heading.{tag100, first_with, field100}
 use Rattle.marc.proofs.Frames.{framed}
 use Rattle.marc_record.proofs.Places.{base_digits, entry_digits}
@@ -15,7 +15,7 @@ use Rattle.marc_record.proofs.fields.find_100.Tie as tie
 
 abbrev invariant-loop : tie.invariant-loop
 invariant-loop bytes base entries left₀ left =
-    (base ≡ baseAddress bytes)
+    (base ≡ base_address bytes)
     × (entries ≡ entry_count bytes)
     × (left ≤ entries)
     × (25 + 12 * entries < length bytes)

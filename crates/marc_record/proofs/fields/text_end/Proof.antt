@@ -5,13 +5,13 @@ use mathlib.Core.List.{◌++◌}
 use Prim.Native.Nat.{◌-◌, ◌≤◌}
 use native.Mathlib.Omega.{arith}
 use lib.ListN.{length, take, drop}
-use Rattle.marc.specs.Subfields.{textTo}
+use Rattle.marc.specs.Subfields.{text_to}
 use Rattle.marc_record.proofs.Texts.{text_begins, text_on, text_ends, ends_at_mark, ends_at_end}
 use Rattle.marc_record.proofs.fields.text_end.Statement.{statement}
 use Rattle.marc_record.proofs.fields.text_end.Tie as tie
 
 abbrev invariant-loop : tie.invariant-loop
-invariant-loop field from n i₀ i = (n ≡ length field) × (from ≤ i) × (i ≤ n) × (textTo (drop from field) ≡ take (i - from) (drop from field) ++ textTo (drop i field))
+invariant-loop field from n i₀ i = (n ≡ length field) × (from ≤ i) × (i ≤ n) × (text_to (drop from field) ≡ take (i - from) (drop from field) ++ text_to (drop i field))
 
 abbrev decreases-loop : tie.decreases-loop
 decreases-loop field from n i₀ i = n - i

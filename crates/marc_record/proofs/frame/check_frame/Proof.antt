@@ -6,7 +6,7 @@ use mathlib.Core.Bool.{true}
 use Prim.Native.Nat.{◌-◌, ◌/◌}
 use native.Mathlib.Omega.{arith}
 use lib.ListN.{length}
-use Rattle.marc.specs.Frame.{digitsAt, record_length}
+use Rattle.marc.specs.Frame.{digits_at, record_length}
 use Rattle.marc_record.specs.Frames.{Directory}
 use Rattle.marc_record.proofs.Places.{base_number}
 use Rattle.marc_record.proofs.Rows.{directory, too_short, no_length, other_length, at_base, behind_leader}
@@ -14,7 +14,7 @@ use Rattle.marc_record.proofs.frame.check_frame.Statement.{statement}
 use Rattle.marc_record.proofs.frame.check_frame.Tie as tie
 
 -- the record's length is a number, and the bytes lent
-is_number : (c : tie.Else2) → digitsAt c.before.before.before.before.args.bytes.now 0 5 ≡ true
+is_number : (c : tie.Else2) → digits_at c.before.before.before.before.args.bytes.now 0 5 ≡ true
 is_number c = sym c.before.digits.ensures ∙ not-false _ c.if2.false
 
 size_is : (c : tie.Else3) → let r = c.before.before.before.before.before.before.args.bytes.now in record_length r ≡ length r

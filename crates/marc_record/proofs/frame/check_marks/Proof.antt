@@ -5,7 +5,7 @@ use Prim.Native.Nat.{◌-◌}
 use native.Mathlib.Omega.{arith}
 use lib.ListN.{get_or}
 use Rattle.meaning.specs.Refusals.{refusal}
-use Rattle.marc.specs.Frame.{baseAddress, fieldMark}
+use Rattle.marc.specs.Frame.{base_address, field_mark}
 use Rattle.table.specs.Places.{place_in}
 use Rattle.marc_record.proofs.Rows.{at-directory, at_field, at_end, at_none}
 use borrow.Author.Rules.{rules}
@@ -13,7 +13,7 @@ use Rattle.marc_record.proofs.frame.check_marks.Statement.{statement}
 use Rattle.marc_record.proofs.frame.check_marks.Tie as tie
 
 -- the directory ends with its mark
-directory-marked : (c : tie.Else1) → let r = c.before.before.args.bytes.now in get_or r (baseAddress r - 1) 0 ≡ fieldMark
+directory-marked : (c : tie.Else1) → let r = c.before.before.args.bytes.now in get_or r (base_address r - 1) 0 ≡ field_mark
 directory-marked c =
     let start = c.before.before in
     omega (arith, ap (λ b. get_or start.args.bytes.now (b - 1) 0) start.requires.0)
@@ -31,7 +31,7 @@ returns : tie.Need-returns
 returns c =
     let a = c.before.before.args in
     let pre = c.before.before.requires in
-    let last : a.base - 1 ≡ baseAddress a.bytes.now - 1 = ap (λ b. b - 1) pre.0 in
+    let last : a.base - 1 ≡ base_address a.bytes.now - 1 = ap (λ b. b - 1) pre.0 in
     ap (λ p. just (refusal 17 p)) last ∙ at-directory a.bytes.now pre.3.0 (λ e. omega (arith, ap (λ i. get_or a.bytes.now i 0) last))
 
 enum-known-unmarked : tie.Need-enum-known-unmarked

@@ -7,11 +7,11 @@ use Prim.Native.Nat.{◌-◌, ◌%◌}
 use native.Mathlib.Omega.{arith}
 use lib.Dec.{ltb}
 use lib.ListN.{length}
-use Rattle.marc.specs.Frame.{digitsAt, baseAddress}
+use Rattle.marc.specs.Frame.{digits_at, base_address}
 use Rattle.marc_record.proofs.frame.fine_base.Statement.{statement}
 use Rattle.marc_record.proofs.frame.fine_base.Tie as tie
 
-is_number : (c : tie.Else1) → digitsAt c.before.before.before.args.bytes.now 12 5 ≡ true
+is_number : (c : tie.Else1) → digits_at c.before.before.before.args.bytes.now 12 5 ≡ true
 is_number c = sym c.before.digits.ensures ∙ not-false _ c.if1.false
 
 digits-requires : tie.Need-digits-requires
@@ -20,7 +20,7 @@ digits-requires c κs = search rules
 returns : tie.Need-returns
 returns c =
     let r = c.before.before.before.args.bytes.now in
-    let d : digitsAt r 12 5 ≡ false = sym c.before.digits.ensures ∙ not_true _ c.if1.true in
+    let d : digits_at r 12 5 ≡ false = sym c.before.digits.ensures ∙ not_true _ c.if1.true in
     rw d
 
 five-requires : tie.Need-five-requires
@@ -30,19 +30,19 @@ returns-2 : tie.Need-returns-2
 returns-2 c =
     let r = c.before.before.before.before.before.args.bytes.now in
     let v = c.before.five.ensures.0 in
-    rw (is_number c.before.before, lt-ltb (baseAddress r) 25 (omega arith))
+    rw (is_number c.before.before, lt-ltb (base_address r) 25 (omega arith))
 
 returns-3 : tie.Need-returns-3
 returns-3 c =
     let r = c.before.before.before.before.before.before.args.bytes.now in
     let v = c.before.before.five.ensures.0 in
-    rw (is_number c.before.before.before, le-ltb (baseAddress r) 25 (omega arith), ne_eqb ((baseAddress r - 25) % 12) 0 (λ e. omega arith))
+    rw (is_number c.before.before.before, le-ltb (base_address r) 25 (omega arith), ne_eqb ((base_address r - 25) % 12) 0 (λ e. omega arith))
 
 returns-4 : tie.Need-returns-4
 returns-4 c =
     let r = c.before.before.before.before.before.before.args.bytes.now in
     let v = c.before.before.five.ensures.0 in
-    rw (is_number c.before.before.before, le-ltb (baseAddress r) 25 (omega arith), eq-eqb ((baseAddress r - 25) % 12) 0 (omega arith)) (ap (λ n. not (ltb n (length r))) (sym v))
+    rw (is_number c.before.before.before, le-ltb (base_address r) 25 (omega arith), eq-eqb ((base_address r - 25) % 12) 0 (omega arith)) (ap (λ n. not (ltb n (length r))) (sym v))
 
 pub fine-base-spec : {M : Type 1} → statement M
 fine-base-spec =

@@ -4,7 +4,7 @@ use mathlib.Core.Path.{sym, ap}
 use native.Mathlib.Omega.{arith}
 use lib.ListN.{get_or}
 use Rattle.theory.specs.Least.{or_else}
-use Rattle.marc.specs.Frame.{fieldMark, unmarked}
+use Rattle.marc.specs.Frame.{field_mark, unmarked}
 use Rattle.table.specs.Places.{place_in}
 use borrow.Author.Rules.{rules}
 use Rattle.marc_record.proofs.frame.first_unmarked.Statement.{statement}
@@ -22,15 +22,15 @@ shared-slice-read-if1 c = search rules
 returns : tie.Need-returns
 returns c =
     let a = c.before.before.before.before.args in
-    rw (c.before.before.enum_told.given.1, ne_eqb (get_or a.bytes.now a.last 0) fieldMark (λ e. omega arith))
+    rw (c.before.before.enum_told.given.1, ne_eqb (get_or a.bytes.now a.last 0) field_mark (λ e. omega arith))
 
 returns-2 : tie.Need-returns-2
-returns-2 c = let a = c.before.before.before.args in ap (λ p. or_else (place_in p) (unmarked a.bytes.now a.last fieldMark)) (sym c.before.found.given.1)
+returns-2 c = let a = c.before.before.before.args in ap (λ p. or_else (place_in p) (unmarked a.bytes.now a.last field_mark)) (sym c.before.found.given.1)
 
 returns-3 : tie.Need-returns-3
 returns-3 c =
     let a = c.before.before.before.before.args in
-    rw (c.before.before.enum_told.given.1, eq-eqb (get_or a.bytes.now a.last 0) fieldMark (omega arith))
+    rw (c.before.before.enum_told.given.1, eq-eqb (get_or a.bytes.now a.last 0) field_mark (omega arith))
 
 pub first-unmarked-spec : {M : Type 1} → statement M
 first-unmarked-spec =

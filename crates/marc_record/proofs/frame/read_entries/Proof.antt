@@ -6,7 +6,7 @@ use Prim.Native.Nat.{◌-◌, ◌≤◌}
 use native.Mathlib.Numerals.{add-one}
 use native.Mathlib.Omega.{arith}
 use Rattle.theory.specs.Least.{or_else}
-use Rattle.marc.specs.Frame.{entry_count, entry_fault, field_end, fieldMark, unmarked as noMark, first_place}
+use Rattle.marc.specs.Frame.{entry_count, entry_fault, field_end, field_mark, unmarked as noMark, first_place}
 use Rattle.table.specs.Places.{place_in}
 use Rattle.marc_record.specs.Frames.{unended, EntryTells}
 use Rattle.marc_record.specs.declared.frame.Entry.TheVariants.{Ends}
@@ -68,7 +68,7 @@ loop-again c =
     let r = a.bytes.now in
     let field = tells c.before in
     let last : c.before.before.end.given.0.0 - 1 ≡ field_end r head.e - 1 = omega (arith, field.1) in
-    let marks = c.first-unmarked.ensures ∙ ap₂ or_else head.invariant.2 (ap (λ k. noMark r k fieldMark) last) in
+    let marks = c.first-unmarked.ensures ∙ ap₂ or_else head.invariant.2 (ap (λ k. noMark r k field_mark) last) in
     (omega arith, place_on (entry_fault r) head.e head.invariant.1 field.0, marks ∙ ap (λ n. first_place n (unended r)) (sym (add-one head.e)))
 
 returns-2 : tie.Need-returns-2 invariant-loop decreases-loop

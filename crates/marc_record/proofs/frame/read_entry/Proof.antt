@@ -7,15 +7,15 @@ use mathlib.Core.Option.{none}
 use Prim.Native.Nat.{◌+◌}
 use native.Mathlib.Omega.{arith}
 use lib.ListN.{length}
-use Rattle.marc.specs.Frame.{digitsAt, entry_at, field_length, field_end, entry_fault}
+use Rattle.marc.specs.Frame.{digits_at, entry_at, field_length, field_end, entry_fault}
 use Rattle.marc_record.proofs.frame.read_entry.Statement.{statement}
 use Rattle.marc_record.proofs.frame.read_entry.Tie as tie
 
 -- the length, the start are numbers
-length-number : (c : tie.Else1) → let a = c.before.before.before.args in digitsAt a.bytes.now (entry_at a.e + 3) 4 ≡ true
+length-number : (c : tie.Else1) → let a = c.before.before.before.args in digits_at a.bytes.now (entry_at a.e + 3) 4 ≡ true
 length-number c = sym c.before.digits.ensures ∙ not-false _ c.if1.false
 
-start-number : (c : tie.Else3) → let a = c.before.before.before.before.before.before.before.args in digitsAt a.bytes.now (entry_at a.e + 7) 5 ≡ true
+start-number : (c : tie.Else3) → let a = c.before.before.before.before.before.before.before.args in digits_at a.bytes.now (entry_at a.e + 7) 5 ≡ true
 start-number c = sym c.before.digits2.ensures ∙ not-false _ c.if3.false
 
 mul_at : tie.Need-overflow-mul-at
@@ -36,7 +36,7 @@ add-t10 c = search rules
 returns : tie.Need-returns
 returns c =
     let a = c.before.before.before.args in
-    let d : digitsAt a.bytes.now (entry_at a.e + 3) 4 ≡ false = sym c.before.digits.ensures ∙ not_true _ c.if1.true in
+    let d : digits_at a.bytes.now (entry_at a.e + 3) 4 ≡ false = sym c.before.digits.ensures ∙ not_true _ c.if1.true in
     rw d
 
 add-four : tie.Need-overflow-add-four
@@ -67,7 +67,7 @@ returns-3 : tie.Need-returns-3
 returns-3 c =
     let a = c.before.before.before.before.before.before.before.args in
     let v = c.before.before.before.four.ensures.0 in
-    let d : digitsAt a.bytes.now (entry_at a.e + 7) 5 ≡ false = sym c.before.digits2.ensures ∙ not_true _ c.if3.true in
+    let d : digits_at a.bytes.now (entry_at a.e + 7) 5 ≡ false = sym c.before.digits2.ensures ∙ not_true _ c.if3.true in
     rw (length-number c.before.before.before.before, ne_eqb (field_length a.bytes.now a.e) 0 (λ e. omega arith), d)
 
 add_five : tie.Need-overflow-add-five

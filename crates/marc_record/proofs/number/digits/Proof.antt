@@ -4,13 +4,13 @@ use borrow.Author.Tests.{not_true, not-false}
 use mathlib.Core.Path.{◌≡◌, sym, ap₂, ◌∙◌}
 use Prim.Native.Nat.{◌+◌, ◌-◌, ◌≤◌}
 use native.Mathlib.Omega.{arith}
-use Rattle.marc.specs.Frame.{digitsAt}
+use Rattle.marc.specs.Frame.{digits_at}
 use Rattle.marc_record.proofs.Numbers.{digit_stops, digit_goes, digits-none}
 use Rattle.marc_record.proofs.number.digits.Statement.{statement}
 use Rattle.marc_record.proofs.number.digits.Tie as tie
 
 abbrev invariant-loop : tie.invariant-loop
-invariant-loop bytes at n k₀ k = (k ≤ n) × (digitsAt bytes (at + k) (n - k) ≡ digitsAt bytes at n)
+invariant-loop bytes at n k₀ k = (k ≤ n) × (digits_at bytes (at + k) (n - k) ≡ digits_at bytes at n)
 
 abbrev decreases-loop : tie.decreases-loop
 decreases-loop bytes at n k₀ k = n - k
@@ -20,7 +20,7 @@ loop-holds c =
     let a = c.before.args in
     let i : a.at + 0 ≡ a.at = omega arith in
     let j : a.n - 0 ≡ a.n = omega arith in
-    (omega arith, ap₂ (digitsAt a.bytes.now) i j)
+    (omega arith, ap₂ (digits_at a.bytes.now) i j)
 
 add-is-digit : tie.Need-overflow-add-is-digit invariant-loop decreases-loop
 add-is-digit c = search rules

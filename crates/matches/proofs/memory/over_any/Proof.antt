@@ -4,7 +4,7 @@ use native.Mathlib.Omega.{arith}
 use Rattle.meaning.proofs.Recognised.{recognised}
 use Rattle.meaning.proofs.Sound.{sound}
 use Rattle.matching.proofs.Searched.{fit}
-use Rattle.matches.proofs.Unwritten.{none_gathered, index_room}
+use Rattle.matches.proofs.Unwritten.{none_gathered, index_room_lem}
 use Rattle.matches.proofs.memory.over_any.Statement.{statement}
 use Rattle.matches.proofs.memory.over_any.Tie as tie
 
@@ -20,7 +20,7 @@ search-in-requires c κs =
     let a = s.args in
     let p = s.requires in
     let ok = (fit a.table.now a.pattern.now a.heading.now a.cut a.spans.now a.sets.now (p)).sound in
-    (p, (none_gathered _ 4608 (omega (arith, (sound a.table.now ok).small)), index_room a.table.now 512 8192 26145 (sound a.table.now ok).small ((recognised a.table.now).0 ok).few_pairs_lem (omega arith)))
+    (p, (none_gathered _ 4608 (omega (arith, (sound a.table.now ok).small)), index_room_lem a.table.now 512 8192 26145 (sound a.table.now ok).small ((recognised a.table.now).0 ok).few_pairs_lem (omega arith)))
 
 same_length : tie.Need-same-length
 same_length c = search rules

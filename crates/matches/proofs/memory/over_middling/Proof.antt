@@ -3,7 +3,7 @@ use borrow.Author.Rules.{rules}
 use native.Mathlib.Omega.{arith}
 use Rattle.meaning.proofs.Recognised.{recognised}
 use Rattle.matching.proofs.Searched.{fit}
-use Rattle.matches.proofs.Unwritten.{none_gathered, index_room}
+use Rattle.matches.proofs.Unwritten.{none_gathered, index_room_lem}
 use Rattle.matches.proofs.memory.over_middling.Statement.{statement}
 use Rattle.matches.proofs.memory.over_middling.Tie as tie
 
@@ -19,7 +19,7 @@ search-in-requires c κs =
     let a = s.args in
     let p = s.requires in
     let ok = (fit a.table.now a.pattern.now a.heading.now a.cut a.spans.now a.sets.now p.1).sound in
-    (p.1, (none_gathered _ 2304 (omega (arith, p.0)), index_room a.table.now 256 8192 17185 p.0 ((recognised a.table.now).0 ok).few_pairs_lem (omega arith)))
+    (p.1, (none_gathered _ 2304 (omega (arith, p.0)), index_room_lem a.table.now 256 8192 17185 p.0 ((recognised a.table.now).0 ok).few_pairs_lem (omega arith)))
 
 same_length : tie.Need-same-length
 same_length c = search rules

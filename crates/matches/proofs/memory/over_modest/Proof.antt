@@ -1,7 +1,7 @@
 -- The memory has room for as many symbols and pairs as the table may have.
 use borrow.Author.Rules.{rules}
 use native.Mathlib.Omega.{arith}
-use Rattle.matches.proofs.Unwritten.{none_gathered, index_room}
+use Rattle.matches.proofs.Unwritten.{none_gathered, index_room_lem}
 use Rattle.matches.proofs.memory.over_modest.Statement.{statement}
 use Rattle.matches.proofs.memory.over_modest.Tie as tie
 
@@ -16,7 +16,7 @@ search-in-requires c κs =
     let s = c.before.before.before.before.before.before.before.before.before in
     let a = s.args in
     let p = s.requires in
-    (p.1, (none_gathered _ 576 (omega (arith, p.0.0)), index_room a.table.now 64 512 2785 p.0.0 p.0.1 (omega arith)))
+    (p.1, (none_gathered _ 576 (omega (arith, p.0.0)), index_room_lem a.table.now 64 512 2785 p.0.0 p.0.1 (omega arith)))
 
 same_length : tie.Need-same-length
 same_length c = search rules

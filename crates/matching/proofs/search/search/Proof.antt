@@ -6,8 +6,8 @@ use mathlib.Core.Option.{some as just}
 use native.Mathlib.Omega.{arith}
 use lib.ListN.{length}
 use Rattle.theory.specs.Match.{clash}
-use Rattle.meaning.specs.File.{tableIn}
-use Rattle.meaning.specs.Calls.{zeros, facesIn}
+use Rattle.meaning.specs.File.{table_in}
+use Rattle.meaning.specs.Calls.{zeros, faces_in}
 use Rattle.facing.specs.Faced.{ClearBy}
 use Rattle.facing.proofs.Faced.{clash-told, clear_told}
 use Rattle.wide.specs.Index.{Index}
@@ -39,7 +39,7 @@ enum-known-node c = search rules
 
 clashes : (c : tie.After-known-told)
     → let a = c.before.before.before.before.before.before.before.before.before.before.before.before.before.before.before.before.before.before.before.before.before.before.before.args in
-    clash (tableIn a.table.now) a.cut (facesIn a.table.now a.pattern.now a.heading.now) ≡ just c.before.node.given.0.0
+    clash (table_in a.table.now) a.cut (faces_in a.table.now a.pattern.now a.heading.now) ≡ just c.before.node.given.0.0
 clashes c =
     let a = c.before.before.before.before.before.before.before.before.before.before.before.before.before.before.before.before.before.before.before.before.before.before.before.args in
     clash-told a.table.now a.cut a.pattern.now a.heading.now _ c.before.node.given.1 c.before.before.before.before.before.before.before.face.ensures.0

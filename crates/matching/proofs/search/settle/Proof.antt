@@ -3,7 +3,7 @@ use borrow.Author.Rules.{rules}
 use mathlib.Core.Path.{refl}
 use native.Mathlib.Omega.{arith}
 use borrow.Author.Tests.{lt-ltb, le-ltb}
-use Rattle.matching.specs.Outcomes.{outcomeOf}
+use Rattle.matching.specs.Outcomes.{outcome_of}
 use Rattle.matching.proofs.Searched.{same-matched}
 use Rattle.matching.proofs.search.settle.Statement.{statement}
 use Rattle.matching.proofs.search.settle.Tie as tie
@@ -18,7 +18,7 @@ same-length-2 : tie.Need-same-length-2
 same-length-2 c = search rules
 
 returns : tie.Need-returns
-unfolding outcomeOf
+unfolding outcome_of
 returns c =
     let found = c.before.before.before.before.before.before.before.before.before.before.before.args.found in
     rw (lt-ltb found.lacking 32 (omega arith)) c.before.before.before.before.refuse.ensures
@@ -33,7 +33,7 @@ same-length-3 : tie.Need-same-length-3
 same-length-3 c = search rules
 
 returns-2 : tie.Need-returns-2
-unfolding outcomeOf
+unfolding outcome_of
 returns-2 c =
     let a = c.before.before.before.before.before.before.before.before.before.args in
     rw (le-ltb a.found.lacking 32 (omega arith)) (same-matched refl refl c.before.before.clear-words.ensures)

@@ -1,6 +1,6 @@
 -- The word with its space, the number and the line end, one behind the other, are the line.
 use borrow.Author.Rules.{rules}
-use Rattle.output.specs.Titles.{question_word, titleText}
+use Rattle.output.specs.Titles.{question_word, title_text}
 use Rattle.output.proofs.Titles.{put_numbered}
 use Rattle.output.proofs.say.put_title.Statement.{statement}
 use Rattle.output.proofs.say.put_title.Tie as tie
@@ -21,7 +21,7 @@ same_length : tie.Need-same-length
 same_length c = search rules
 
 returns : tie.Need-returns
-unfolding titleText
+unfolding title_text
 returns c =
     let s = c.before.before.before.before.before.before.before.before.before.before.before.before.before.before in
     let word = c.before.before.before.before.before.before.before.before.before.before.put-text in

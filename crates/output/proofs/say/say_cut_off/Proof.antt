@@ -3,9 +3,9 @@ use borrow.Author.Rules.{rules}
 use mathlib.Core.Path.{subst}
 use Prim.Native.Nat.{◌-◌}
 use native.Mathlib.Omega.{arith}
-use Rattle.lines.specs.Lines.{lineRoom}
+use Rattle.lines.specs.Lines.{line_room}
 use Rattle.output.specs.Pendings.{Said, Roomy}
-use Rattle.output.specs.Titles.{titleText, cutOffText, titleRoom}
+use Rattle.output.specs.Titles.{title_text, cut_off_text, title_room}
 use Rattle.output.proofs.Saying.{said_then_put, said_failed}
 use Rattle.output.proofs.say.say_cut_off.Statement.{statement}
 use Rattle.output.proofs.say.say_cut_off.Tie as tie
@@ -22,7 +22,7 @@ slice-aggregate-put-text c = search rules
 put-text-requires : tie.Need-put-text-requires
 put-text-requires c κs =
     let title = c.before.before.before.before.before.before.before.say-title in
-    omega (arith, subst (Roomy _ (lineRoom - titleRoom)) c.before.before.before.written.given.1 title.ensures.1, title.auto.1.0)
+    omega (arith, subst (Roomy _ (line_room - title_room)) c.before.before.before.written.given.1 title.ensures.1, title.auto.1.0)
 
 enum_told : tie.Need-enum-told
 enum_told c = search rules
@@ -34,11 +34,11 @@ returns : tie.Need-returns
 returns c =
     let s = c.before.before.before.before.before.before.before.before.before.before.before.before.before in
     let out = s.args.out.now in
-    let text = titleText s.args.k in
+    let text = title_text s.args.k in
     let title = c.before.before.before.before.before.before.before.before.before.before.say-title in
     let mid = title.new.1.0 in
     let said = subst (λ r. Said out s.args.used text r mid) c.before.before.before.before.before.before.written.given.1 title.ensures.0 in
-    said_then_put out s.args.used text cutOffText mid _ s.requires.0 said c.before.before.put-text.ensures
+    said_then_put out s.args.used text cut_off_text mid _ s.requires.0 said c.before.before.put-text.ensures
 
 same-length-2 : tie.Need-same-length-2
 same-length-2 c = search rules
@@ -47,10 +47,10 @@ returns-2 : tie.Need-returns-2
 returns-2 c =
     let s = c.before.before.before.before.before.before.before in
     let out = s.args.out.now in
-    let text = titleText s.args.k in
+    let text = title_text s.args.k in
     let title = c.before.before.before.before.say-title in
     let mid = title.new.1.0 in
-    said_failed out s.args.used text cutOffText mid mid (subst (λ r. Said out s.args.used text r mid) c.enum_told.given.1 title.ensures.0)
+    said_failed out s.args.used text cut_off_text mid mid (subst (λ r. Said out s.args.used text r mid) c.enum_told.given.1 title.ensures.0)
 
 pub say-cut-off-spec : {M : Type 1} → statement M
 say-cut-off-spec =

@@ -4,9 +4,9 @@ use mathlib.Core.Path.{subst}
 use mathlib.Core.List.{[]}
 use native.Mathlib.Omega.{arith}
 use lib.ListN.{length}
-use Rattle.lines.specs.Lines.{lineRoom}
+use Rattle.lines.specs.Lines.{line_room}
 use Rattle.output.specs.Pendings.{Said, Roomy}
-use Rattle.output.specs.Titles.{titleText}
+use Rattle.output.specs.Titles.{title_text}
 use Rattle.output.proofs.Titles.{title_short}
 use Rattle.output.proofs.Saying.{said_then_put, said_failed}
 use Rattle.output.proofs.say.say_title.Statement.{statement}
@@ -19,7 +19,7 @@ enum-known-written : tie.Need-enum-known-written
 enum-known-written c = search rules
 
 put-title-requires : tie.Need-put-title-requires
-put-title-requires c κs = subst (Roomy _ lineRoom) c.before.before.written.given.1 c.before.before.before.before.make-room.ensures.1
+put-title-requires c κs = subst (Roomy _ line_room) c.before.before.written.given.1 c.before.before.before.before.make-room.ensures.1
 
 enum_told : tie.Need-enum-told
 enum_told c = search rules
@@ -31,8 +31,8 @@ returns : tie.Need-returns
 returns c =
     let s = c.before.before.before.before.before.before.before.before.before.before in
     let out = s.args.out.now in
-    let title = titleText s.args.k in
-    let made = subst (λ r. Said out s.args.used [] r out × Roomy (length out) lineRoom r) c.before.before.before.before.before.written.given.1 c.before.before.before.before.before.before.before.make-room.ensures in
+    let title = title_text s.args.k in
+    let made = subst (λ r. Said out s.args.used [] r out × Roomy (length out) line_room r) c.before.before.before.before.before.written.given.1 c.before.before.before.before.before.before.before.make-room.ensures in
     let put = c.before.before.put-title.ensures in
     (said_then_put out s.args.used [] title out _ s.requires.0 made.0 put, omega (arith, made.1, put.ends, title_short s.args.k))
 
@@ -43,7 +43,7 @@ returns-2 : tie.Need-returns-2
 returns-2 c =
     let s = c.before.before.before.before.before in
     let out = s.args.out.now in
-    (said_failed out s.args.used [] (titleText s.args.k) out out (subst (λ r. Said out s.args.used [] r out) c.enum_told.given.1 c.before.before.make-room.ensures.0), tt)
+    (said_failed out s.args.used [] (title_text s.args.k) out out (subst (λ r. Said out s.args.used [] r out) c.enum_told.given.1 c.before.before.make-room.ensures.0), tt)
 
 pub say-title-spec : {M : Type 1} → statement M
 say-title-spec =

@@ -9,17 +9,17 @@ use native.Mathlib.Omega.{arith}
 use borrow.Author.Count.{below_none, below_more}
 use lib.ListN.{length, get_or, length-replicate}
 use Rattle.theory.specs.Stands.{start_of}
-use Rattle.meaning.specs.Limits.{setWords}
+use Rattle.meaning.specs.Limits.{set_words_lem}
 use Rattle.sets.proofs.Laws.{member-zeros}
-use Rattle.positions.specs.Position.{noteCount, StandAt}
+use Rattle.positions.specs.Position.{note_count, StandAt}
 use Rattle.positions.proofs.Standing.{stand_none, stand_next, stand_alone}
 use Rattle.positions.proofs.faced.faced_at.Statement.{statement}
 use Rattle.positions.proofs.faced.faced_at.Tie as tie
 
 abbrev invariant-loop : tie.invariant-loop
 invariant-loop heading notes k first alone₀ words₀ o₀ o-end alone words o =
-    (o ≤ noteCount notes)
-    × (length words ≡ setWords)
+    (o ≤ note_count notes)
+    × (length words ≡ set_words_lem)
     × StandAt heading notes k o words
     × (alone ≡ true → (j : ℕ) → j < o → get_or heading (start_of notes j + k) 0 ≡ first)
 
@@ -49,7 +49,7 @@ shared-slice-read-first : tie.Need-shared-slice-read-first invariant-loop decrea
 shared-slice-read-first c = first-inside c.before.before
 
 loop-holds : tie.Need-loop-init invariant-loop decreases-loop
-loop-holds c = (omega arith, length-replicate {A = ℕ} setWords 0, stand_none _ _ _ _ (member-zeros setWords), λ _. below_none _)
+loop-holds c = (omega arith, length-replicate {A = ℕ} set_words_lem 0, stand_none _ _ _ _ (member-zeros set_words_lem), λ _. below_none _)
 
 note-at-requires-2 : tie.Need-note-at-requires-2 invariant-loop decreases-loop
 note-at-requires-2 c κs = search rules
@@ -127,7 +127,7 @@ returns-2 : tie.Need-returns-2 invariant-loop decreases-loop
 returns-2 c =
     let at = c.before in
     let s = at.before.before.before.before.before.before in
-    let e : at.loop.o ≡ noteCount s.args.notes.now = omega arith in
+    let e : at.loop.o ≡ note_count s.args.notes.now = omega arith in
     let stand = rw e at at.loop.invariant.2 in
     record {
       whole = λ _. stand;

@@ -4,7 +4,7 @@ use mathlib.Core.Path.{◌≡◌, refl}
 use mathlib.Core.Bool.{true}
 use Prim.Native.Nat.{◌+◌, ◌-◌, ◌<◌}
 use native.Mathlib.Omega.{arith}
-use Rattle.meaning.specs.File.{tableIn}
+use Rattle.meaning.specs.File.{table_in}
 use Rattle.meaning.specs.Buffers.{member}
 use Rattle.positions.proofs.Rating.{RatedTo, rated_none, rated_in, rated_out, rated_all, rated_early}
 use Rattle.positions.proofs.rated.few_degrees.Statement.{statement}
@@ -12,7 +12,7 @@ use Rattle.positions.proofs.rated.few_degrees.Tie as tie
 
 abbrev invariant-loop : tie.invariant-loop
 invariant-loop table index faced shared before counts symbols set lowest₀ best₀ s₀ lowest best s =
-    (s < symbols → member set.words s ≡ true) × RatedTo (tableIn table) faced.words set.words before.lowest s lowest best
+    (s < symbols → member set.words s ≡ true) × RatedTo (table_in table) faced.words set.words before.lowest s lowest best
 
 abbrev decreases-loop : tie.decreases-loop
 decreases-loop table index faced shared before counts symbols set lowest₀ best₀ s₀ lowest best s = symbols - s
@@ -28,13 +28,13 @@ loop-holds c =
     let start = c.before.before.before.before.before.before.before in
     let a = start.args in
     let found = c.next-member.ensures in
-    (found.is, rated_out _ _ (rated_none (tableIn a.table.now) a.faced.words a.shared.set.words a.before.lowest start.requires.2) found.not_below found.none)
+    (found.is, rated_out _ _ (rated_none (table_in a.table.now) a.faced.words a.shared.set.words a.before.lowest start.requires.2) found.not_below found.none)
 
 -- one symbol more is looked up
 looked-up : (c : tie.After-greater invariant-loop decreases-loop)
     → let loop = c.before.before.before.before.loop in
     let a = c.before.before.before.before.before.before.before.before.before.before.before.before.args in
-    RatedTo (tableIn a.table.now) a.faced.words a.shared.set.words a.before.lowest (loop.s + 1) c.before.lesser.result c.greater.result
+    RatedTo (table_in a.table.now) a.faced.words a.shared.set.words a.before.lowest (loop.s + 1) c.before.lesser.result c.greater.result
 looked-up c =
     let loop = c.before.before.before.before.loop in
     rated_in _ _ loop.invariant.1 (loop.invariant.0 (omega arith)) c.before.before.shared-degree.ensures c.before.lesser.ensures c.greater.ensures

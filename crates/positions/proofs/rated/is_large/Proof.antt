@@ -3,15 +3,15 @@ use borrow.Author.Rules.{rules}
 use mathlib.Core.Bool.{false≢true}
 use Prim.Native.Nat.{◌≤◌, ◌-◌}
 use native.Mathlib.Omega.{arith}
-use Rattle.meaning.specs.Limits.{setWords}
+use Rattle.meaning.specs.Limits.{set_words_lem}
 use Rattle.positions.proofs.rated.is_large.Statement.{statement}
 use Rattle.positions.proofs.rated.is_large.Tie as tie
 
 abbrev invariant-loop : tie.invariant-loop
-invariant-loop symbols words left₀ i₀ left i = i ≤ setWords
+invariant-loop symbols words left₀ i₀ left i = i ≤ set_words_lem
 
 abbrev decreases-loop : tie.decreases-loop
-decreases-loop symbols words left₀ i₀ left i = setWords - i
+decreases-loop symbols words left₀ i₀ left i = set_words_lem - i
 
 returns : tie.Need-returns invariant-loop decreases-loop
 returns c = λ e. absurd (false≢true e)

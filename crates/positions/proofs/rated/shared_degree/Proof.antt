@@ -5,7 +5,7 @@ use mathlib.Core.Bool.{true}
 use Prim.Native.Nat.{ℕ, ◌+◌, ◌-◌, ◌<◌, min}
 use native.Mathlib.Omega.{arith}
 use Rattle.theory.proofs.Lemmas.{fewest}
-use Rattle.meaning.specs.File.{tableIn}
+use Rattle.meaning.specs.File.{table_in}
 use Rattle.meaning.specs.Buffers.{member}
 use Rattle.positions.proofs.Members.{fewest_in, passed_to}
 use Rattle.positions.proofs.rated.shared_degree.Statement.{statement}
@@ -13,7 +13,7 @@ use Rattle.positions.proofs.rated.shared_degree.Tie as tie
 
 abbrev invariant-loop : tie.invariant-loop
 invariant-loop table counts index symbol faced symbols least₀ h₀ least h =
-    (h < symbols → member faced.words h ≡ true) × (least ≡ fewest (member faced.words) ((tableIn table).deg symbol) (min h symbols))
+    (h < symbols → member faced.words h ≡ true) × (least ≡ fewest (member faced.words) ((table_in table).deg symbol) (min h symbols))
 
 abbrev decreases-loop : tie.decreases-loop
 decreases-loop table counts index symbol faced symbols least₀ h₀ least h = symbols - h
@@ -25,7 +25,7 @@ loop-holds : tie.Need-loop-init invariant-loop decreases-loop
 loop-holds c =
     let a = c.before.before.before.before.before.args in
     let found = c.next-member.ensures in
-    (found.is, inv (passed_to (member a.t4.words) ((tableIn a.table.now).deg a.symbol) 0 _ _ (omega arith) (omega arith) found.none))
+    (found.is, inv (passed_to (member a.t4.words) ((table_in a.table.now).deg a.symbol) 0 _ _ (omega arith) (omega arith) found.none))
 
 degree-in-row-requires : tie.Need-degree-in-row-requires invariant-loop decreases-loop
 degree-in-row-requires c κs = search rules
@@ -48,7 +48,7 @@ loop-again c =
     let a = start.args in
     let loop = c.before.before.before.before.before.before.loop in
     let b = member a.t4.words in
-    let f = (tableIn a.table.now).deg a.symbol in
+    let f = (table_in a.table.now).deg a.symbol in
     let found = c.next-member2.ensures in
     let here : min loop.h a.counts.symbols ≡ loop.h = omega arith in
     let so_far : loop.least ≡ fewest b f loop.h = rw here at loop.invariant.1 in
@@ -60,7 +60,7 @@ returns : tie.Need-returns invariant-loop decreases-loop
 returns c =
     let start = c.before.before.before.before.before.before.before in
     let a = start.args in
-    let e : min c.before.loop.h a.counts.symbols ≡ (tableIn a.table.now).size = omega (arith, start.requires.0.symbols_are) in
+    let e : min c.before.loop.h a.counts.symbols ≡ (table_in a.table.now).size = omega (arith, start.requires.0.symbols_are) in
     rw e at c.before.loop.invariant.1
 
 pub shared-degree-spec : {M : Type 1} → statement M

@@ -6,7 +6,7 @@ use Prim.Native.Nat.{ℕ, ◌+◌, ◌-◌, ◌<◌}
 use native.Mathlib.Omega.{arith}
 use lib.ListN.{length}
 use Rattle.theory.specs.Table.{Table}
-use Rattle.meaning.specs.Limits.{setWords}
+use Rattle.meaning.specs.Limits.{set_words_lem}
 use Rattle.meaning.specs.Buffers.{member}
 use Rattle.near.specs.Near.{is_near}
 use Rattle.positions.specs.Position.{NearTo}
@@ -48,7 +48,7 @@ loop-holds : tie.Need-loop-init invariant-loop decreases-loop
 loop-holds c =
     let met = c.before.before.before.before.before in
     let found = c.next-member2.ensures in
-    let many : length c.before.before.before.before.set-of.result.words ≡ setWords = search rules in (
+    let many : length c.before.before.before.before.set-of.result.words ≡ set_words_lem = search rules in (
       found.is,
       λ T cut size known.
           let first = (is-first met).1 in
@@ -84,7 +84,7 @@ loop-again c =
     let loop = turn.before.loop in
     let found = c.next-member3.ensures in
     let other = c.before.before.before.before.before.before.set-of2 in
-    let many : length other.result.words ≡ setWords = search rules in (
+    let many : length other.result.words ≡ set_words_lem = search rules in (
       found.is,
       λ T cut size known.
           let here = loop.invariant.0 (omega arith) in

@@ -4,7 +4,7 @@ use mathlib.Core.Path.{refl, sym, ap, ap₂, ◌∙◌}
 use Prim.Native.Nat.{◌+◌, ◌*◌, ◌≤◌}
 use native.Mathlib.Omega.{arith}
 use Rattle.meaning.specs.File.{number}
-use Rattle.meaning.specs.Program.{numbersFrom, pattern_in, heading_in, table_bytes}
+use Rattle.meaning.specs.Program.{numbers_from, pattern_in, heading_in, table_bytes}
 use lib.ListN.{length, take, drop}
 use lib.Seq.{length-take-le}
 use Rattle.shape.proofs.Shapes.{nodes_inside}
@@ -94,7 +94,7 @@ returns c =
     answered input said.result header.accepted s.requires.1.1
     (rest_all input _ ∙ ap₂ (λ m n. drop (14 + 2 * m + 2 * n) input) header.pattern_is header.heading_is)
     (copied_list input 14 _ _ _ _ _ header.pattern_is refl first.ensures)
-    (copied_list input _ _ _ _ _ _ header.heading_is refl second.ensures ∙ ap (λ m. take 1025 (numbersFrom input (14 + 2 * m) (number input 4))) header.pattern_is)
+    (copied_list input _ _ _ _ _ _ header.heading_is refl second.ensures ∙ ap (λ m. take 1025 (numbers_from input (14 + 2 * m) (number input 4))) header.pattern_is)
     header.cut_is
     s.requires.1.0
     said.ensures

@@ -6,16 +6,16 @@ use mathlib.Core.Bool.{false≢true}
 use Prim.Native.Nat.{ℕ, ◌-◌, ◌≤◌, ◌<◌}
 use native.Mathlib.Omega.{arith}
 use lib.ListN.{get_or}
-use Rattle.meaning.specs.Limits.{setWords}
+use Rattle.meaning.specs.Limits.{set_words_lem}
 use Rattle.sets.proofs.Laws.{words_of, no_member, empty_word}
 use Rattle.sets.proofs.SymbolSet.is_empty.Statement.{statement}
 use Rattle.sets.proofs.SymbolSet.is_empty.Tie as tie
 
 abbrev invariant-loop : tie.invariant-loop
-invariant-loop words at₀ at = (at ≤ setWords) × ((j : ℕ) → j < at → get_or words j 0 ≡ 0)
+invariant-loop words at₀ at = (at ≤ set_words_lem) × ((j : ℕ) → j < at → get_or words j 0 ≡ 0)
 
 abbrev decreases-loop : tie.decreases-loop
-decreases-loop words at₀ at = setWords - at
+decreases-loop words at₀ at = set_words_lem - at
 
 loop-holds : tie.Need-loop-init invariant-loop decreases-loop
 loop-holds c = (omega arith, below_none _)
@@ -29,7 +29,7 @@ array-read-if1 c = search rules
 returns : tie.Need-returns invariant-loop decreases-loop
 returns c = (
   λ e. absurd (false≢true e),
-  λ h. absurd (c.if1.true (empty_word setWords _ (search (rules, words_of)) h _)),
+  λ h. absurd (c.if1.true (empty_word set_words_lem _ (search (rules, words_of)) h _)),
 )
 
 add_at : tie.Need-overflow-add-at invariant-loop decreases-loop
@@ -43,7 +43,7 @@ loop-again c = (omega arith, below_more _ _ c.before.before.loop.invariant.1 c.i
 
 returns-2 : tie.Need-returns-2 invariant-loop decreases-loop
 returns-2 c = (
-  λ e. no_member setWords _ (search rules) (λ j l. c.before.loop.invariant.1 j (omega arith)),
+  λ e. no_member set_words_lem _ (search rules) (λ j l. c.before.loop.invariant.1 j (omega arith)),
   λ h. refl,
 )
 

@@ -5,7 +5,7 @@ use Prim.Native.Nat.{◌+◌, ◌≤◌, ◌-◌}
 use native.Mathlib.Omega.{arith}
 use lib.ListN.{length, get_or, set, take}
 use lib.Seq.{take_all}
-use Rattle.meaning.specs.Limits.{setWords}
+use Rattle.meaning.specs.Limits.{set_words_lem}
 use Rattle.meaning.specs.Over.{over}
 use Rattle.meaning.proofs.Over.{over_none, store_more}
 use Rattle.sets.proofs.SymbolSet.put.Statement.{statement}
@@ -13,10 +13,10 @@ use Rattle.sets.proofs.SymbolSet.put.Tie as tie
 
 abbrev invariant-loop : tie.invariant-loop
 invariant-loop list₀ at words w₀ list w =
-    (w ≤ setWords) × (length list ≡ length list₀) × (list ≡ over list₀ at (take w words))
+    (w ≤ set_words_lem) × (length list ≡ length list₀) × (list ≡ over list₀ at (take w words))
 
 abbrev decreases-loop : tie.decreases-loop
-decreases-loop list₀ at words w₀ list w = setWords - w
+decreases-loop list₀ at words w₀ list w = set_words_lem - w
 
 loop-holds : tie.Need-loop-init invariant-loop decreases-loop
 loop-holds c = (omega arith, refl, over_none _ _)
@@ -47,7 +47,7 @@ loop-again c =
     let a = c.before.before.before.args in
     let w = c.before.loop.w in
     let words = a.self.words in
-    let n : length words ≡ setWords = search rules in (
+    let n : length words ≡ set_words_lem = search rules in (
       omega arith,
       search rules,
       ap (λ l. set l (a.at + w) (get_or words w 0)) c.before.loop.invariant.2
@@ -61,7 +61,7 @@ returns : tie.Need-returns invariant-loop decreases-loop
 returns c =
     let a = c.before.before.before.args in
     let words = a.self.words in
-    let n : length words ≡ setWords = search rules in
+    let n : length words ≡ set_words_lem = search rules in
     c.before.loop.invariant.2 ∙ ap (over a.list.now a.at) (take_all c.before.loop.w words (omega arith))
 
 pub put_spec : {M : Type 1} → statement M

@@ -8,16 +8,16 @@ use native.Mathlib.Decide.{dec_lt}
 use native.Mathlib.Omega.{arith}
 use lib.ListN.{length, get_or, set, length-set}
 use lib.Seq.{get_or-set_same, get_or-set_other}
-use Rattle.meaning.specs.Limits.{setWords}
+use Rattle.meaning.specs.Limits.{set_words_lem}
 use Rattle.sets.proofs.SymbolSet.read.Statement.{statement}
 use Rattle.sets.proofs.SymbolSet.read.Tie as tie
 
 -- the first i words are copied
 pub record Copied (list : List ℕ) (at : ℕ) (words : List ℕ) (i : ℕ) : Type 0 where
-  pub long : length words ≡ setWords
+  pub long : length words ≡ set_words_lem
   pub same : (j : ℕ) → j < i → get_or words j 0 ≡ get_or list (at + j) 0
 
-copied_more : (list : List ℕ) (at : ℕ) (words : List ℕ) (i : ℕ) → i < setWords → Copied list at words i → Copied list at (set words i (get_or list (at + i) 0)) (i + 1)
+copied_more : (list : List ℕ) (at : ℕ) (words : List ℕ) (i : ℕ) → i < set_words_lem → Copied list at words i → Copied list at (set words i (get_or list (at + i) 0)) (i + 1)
 copied_more list at words i l c = record { long = length-set words i (get_or list (at + i) 0) ∙ c.long; same = λ j m. go j m (dec_lt j i) }
   where
     go : (j : ℕ) → j < i + 1 → Dec (j < i) → get_or (set words i (get_or list (at + i) 0)) j 0 ≡ get_or list (at + j) 0
@@ -30,7 +30,7 @@ abbrev invariant-loop : tie.invariant-loop
 invariant-loop list at words₀ j₀ words j = Copied list at words j
 
 abbrev decreases-loop : tie.decreases-loop
-decreases-loop list at words₀ j₀ words j = setWords - j
+decreases-loop list at words₀ j₀ words j = set_words_lem - j
 
 loop-holds : tie.Need-loop-init invariant-loop decreases-loop
 loop-holds c = record { long = search rules; same = λ j l. absurd (not-suc-le-zero l) }

@@ -6,7 +6,7 @@ use Prim.Native.Nat.{◌-◌, ◌≤◌}
 use native.Mathlib.Omega.{arith}
 use lib.ListN.{length, set, drop, length-set}
 use Rattle.meaning.specs.Over.{over}
-use Rattle.meaning.specs.Program.{numbersFrom}
+use Rattle.meaning.specs.Program.{numbers_from}
 use Rattle.meaning.proofs.Over.{over_none, over_front}
 use Rattle.shape.proofs.Copying.{length_numbers, copy_more}
 use Rattle.shape.proofs.nodes.copy_nodes.Statement.{statement}
@@ -14,7 +14,7 @@ use Rattle.shape.proofs.nodes.copy_nodes.Tie as tie
 
 abbrev invariant-loop : tie.invariant-loop
 invariant-loop input at count out₀ copied i₀ out i =
-    (i ≤ copied) × (length out ≡ length out₀) × (out ≡ over out₀ 0 (numbersFrom input at i))
+    (i ≤ copied) × (length out ≡ length out₀) × (out ≡ over out₀ 0 (numbers_from input at i))
 
 abbrev decreases-loop : tie.decreases-loop
 decreases-loop input at count out₀ copied i₀ out i = copied - i
@@ -60,7 +60,7 @@ returns c =
     let a = c.before.before.before.before.before.args in
     let i = c.before.loop.i in
     let all : i ≡ c.before.before.fewer.result = omega arith in
-    let ns = numbersFrom a.input.now a.at in
+    let ns = numbers_from a.input.now a.at in
     (c.before.before.fewer.ensures, c.before.loop.invariant.2 ∙ over_front a.out.now (ns i) ∙ ap₂ (λ k n. ns k ++ drop n a.out.now) all (length_numbers a.input.now a.at i ∙ all))
 
 pub copy-nodes-spec : {M : Type 1} → statement M

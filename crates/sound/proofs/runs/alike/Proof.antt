@@ -10,19 +10,19 @@ use lib.ListN.{get_or}
 use Rattle.meaning.specs.File.{number}
 use Rattle.table.specs.Runs.{pair_of, Alike}
 use Rattle.table.proofs.Runs.{one_more}
-use Rattle.sound.specs.Runs.{numbersFrom}
+use Rattle.sound.specs.Runs.{numbers_from}
 use Rattle.sound.proofs.runs.alike.Statement.{statement}
 use Rattle.sound.proofs.runs.alike.Tie as tie
 
 -- where the symbols of a pair stand among the numbers
-lower_of : (file : List ℕ) (at j : ℕ) → numbersFrom file at (3 * (j + 1)) ≡ number file (at + 6 * (j + 1))
+lower_of : (file : List ℕ) (at j : ℕ) → numbers_from file at (3 * (j + 1)) ≡ number file (at + 6 * (j + 1))
 lower_of file at j = ap (number file) (omega arith)
 
-higher-of : (file : List ℕ) (at j : ℕ) → numbersFrom file at (3 * (j + 1) + 1) ≡ number file (at + 6 * (j + 1) + 2)
+higher-of : (file : List ℕ) (at j : ℕ) → numbers_from file at (3 * (j + 1) + 1) ≡ number file (at + 6 * (j + 1) + 2)
 higher-of file at j = ap (number file) (omega arith)
 
 abbrev invariant-loop : tie.invariant-loop
-invariant-loop file at arities j₀ j = (j ≤ 16) × ((i : ℕ) → i < j → Alike arities (pair_of (numbersFrom file at) (i + 1)))
+invariant-loop file at arities j₀ j = (j ≤ 16) × ((i : ℕ) → i < j → Alike arities (pair_of (numbers_from file at) (i + 1)))
 
 abbrev decreases-loop : tie.decreases-loop
 decreases-loop file at arities j₀ j = 16 - j
@@ -86,9 +86,9 @@ loop-again c =
     let lower = c.before.before.before.before.number_at in
     let higher = c.before.before.before.number-at2 in
     let same : get_or a.arities.now lower.result 0 ≡ get_or a.arities.now higher.result 0 = omega arith in
-    let here : Alike a.arities.now (pair_of (numbersFrom a.file.now a.at) (head.j + 1)) =
+    let here : Alike a.arities.now (pair_of (numbers_from a.file.now a.at) (head.j + 1)) =
     rw (lower_of a.file.now a.at head.j, higher-of a.file.now a.at head.j, sym lower.ensures, sym higher.ensures) same in
-    (omega arith, one_more (λ i. Alike a.arities.now (pair_of (numbersFrom a.file.now a.at) (i + 1))) head.j head.invariant.1 here)
+    (omega arith, one_more (λ i. Alike a.arities.now (pair_of (numbers_from a.file.now a.at) (i + 1))) head.j head.invariant.1 here)
 
 returns-2 : tie.Need-returns-2 invariant-loop decreases-loop
 returns-2 c passed j l = c.before.loop.invariant.1 j (omega arith)

@@ -5,9 +5,9 @@ use Prim.Native.Nat.{◌+◌}
 use native.Mathlib.Omega.{arith}
 use mathlib.Core.Path.{◌≡◌, subst}
 use borrow.Author.Rules.{rules}
-use Rattle.meaning.specs.File.{pair_at, symbolCount, aritiesIn, pairsIn}
-use Rattle.meaning.specs.Tables.{pairStart}
-use Rattle.meaning.specs.Refusals.{unsound, badPair}
+use Rattle.meaning.specs.File.{pair_at, symbol_count_lem, arities_in, pairs_in}
+use Rattle.meaning.specs.Tables.{pair_start}
+use Rattle.meaning.specs.Refusals.{unsound, bad_pair_lem}
 use Rattle.table.specs.Keys.{pair_key}
 use Rattle.table.proofs.Pairs.{good_read}
 use Rattle.sound.proofs.runs.first_good.Statement.{statement}
@@ -44,9 +44,9 @@ returns : tie.Need-returns
 returns c =
     let start = c.before.before.before.before.before.before.before in
     let f = start.args.file.now in
-    let e : pairStart f 0 ≡ 10 + symbolCount f = omega arith in
+    let e : pair_start f 0 ≡ 10 + symbol_count_lem f = omega arith in
     rw (c.may-follow.ensures, start.requires.0, c.before.before.before.number-at2.ensures, c.before.before.number-at3.ensures, c.before.number-at4.ensures, c.before.before.before.before.number_at.ensures)
-    (subst (λ i. (not (unsound (aritiesIn f) (pair_at f i)) && ltb 0 (pair_key (pair_at f i))) ≡ not (badPair (aritiesIn f) (pairsIn f) 0)) e
+    (subst (λ i. (not (unsound (arities_in f) (pair_at f i)) && ltb 0 (pair_key (pair_at f i))) ≡ not (bad_pair_lem (arities_in f) (pairs_in f) 0)) e
     (good_read f (λ j. (c.before.before.before.before.before.before.shared-slice-known.given j).fits) 0 (omega arith)))
 
 pub first-good-spec : {M : Type 1} → statement M

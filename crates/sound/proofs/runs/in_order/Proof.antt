@@ -7,12 +7,12 @@ use native.Mathlib.Nat.{not-suc-le-zero}
 use native.Mathlib.Omega.{arith}
 use Rattle.table.specs.Runs.{LanePasses}
 use Rattle.table.proofs.Runs.{or_none, one_more, lanes_ordered}
-use Rattle.sound.specs.Runs.{numbersFrom}
+use Rattle.sound.specs.Runs.{numbers_from}
 use Rattle.sound.proofs.runs.in_order.Statement.{statement}
 use Rattle.sound.proofs.runs.in_order.Tie as tie
 
 abbrev invariant-loop : tie.invariant-loop
-invariant-loop file at symbols fault₀ lane₀ fault lane = (lane ≤ 48) × (fault ≡ 0 → (l : ℕ) → l < lane → LanePasses symbols (numbersFrom file at) l)
+invariant-loop file at symbols fault₀ lane₀ fault lane = (lane ≤ 48) × (fault ≡ 0 → (l : ℕ) → l < lane → LanePasses symbols (numbers_from file at) l)
 
 abbrev decreases-loop : tie.decreases-loop
 decreases-loop file at symbols fault₀ lane₀ fault lane = 48 - lane
@@ -68,12 +68,12 @@ loop-again c =
     let a : at + 2 * (head.lane + 1) ≡ at + 2 * head.lane + 2 = omega arith in
     let b : at + 2 * (head.lane + 3) ≡ at + 2 * head.lane + 6 = omega arith in
     let d : at + 2 * (head.lane + 4) ≡ at + 2 * head.lane + 8 = omega arith in
-    (omega arith, λ none. let both = or_none _ _ none in one_more (LanePasses start.args.symbols (numbersFrom start.args.file.now at)) head.lane (head.invariant.1 both.0) (rw (a, b, d, sym low, sym high, sym lower, sym here) (c.lane-fault.ensures both.1)))
+    (omega arith, λ none. let both = or_none _ _ none in one_more (LanePasses start.args.symbols (numbers_from start.args.file.now at)) head.lane (head.invariant.1 both.0) (rw (a, b, d, sym low, sym high, sym lower, sym here) (c.lane-fault.ensures both.1)))
 
 returns : tie.Need-returns invariant-loop decreases-loop
 returns c passed =
     let a = c.before.before.before.args in
-    lanes_ordered a.symbols (numbersFrom a.file.now a.at) (λ lane l. c.before.loop.invariant.1 (eqb-true _ _ passed) lane (omega arith))
+    lanes_ordered a.symbols (numbers_from a.file.now a.at) (λ lane l. c.before.loop.invariant.1 (eqb-true _ _ passed) lane (omega arith))
 
 pub in-order-spec : {M : Type 1} → statement M
 in-order-spec =

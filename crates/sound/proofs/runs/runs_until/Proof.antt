@@ -6,20 +6,20 @@ use mathlib.Core.Option.{none}
 use Prim.Native.Nat.{◌+◌, ◌-◌, ◌<◌}
 use native.Mathlib.Omega.{arith}
 use lib.ListN.{length}
-use Rattle.theory.specs.Least.{leastBelow}
-use Rattle.meaning.specs.File.{aritiesIn, pairsIn}
-use Rattle.meaning.specs.Tables.{pairStart}
-use Rattle.meaning.specs.Refusals.{badPair}
+use Rattle.theory.specs.Least.{least_below}
+use Rattle.meaning.specs.File.{arities_in, pairs_in}
+use Rattle.meaning.specs.Tables.{pair_start}
+use Rattle.meaning.specs.Refusals.{bad_pair_lem}
 use Rattle.table.specs.Runs.{OrderedRun, AlikeRun}
 use Rattle.table.proofs.Pairs.{short_in}
 use Rattle.table.proofs.Runs.{run_good}
-use Rattle.sound.specs.Runs.{numbersFrom}
+use Rattle.sound.specs.Runs.{numbers_from}
 use Rattle.sound.proofs.InFile.{as_many, two_symbols, pair_of_run}
 use Rattle.sound.proofs.runs.runs_until.Statement.{statement}
 use Rattle.sound.proofs.runs.runs_until.Tie as tie
 
 abbrev invariant-loop : tie.invariant-loop
-invariant-loop file arities pairs symbols last₀ at₀ last at = (last < pairs) × (at ≡ pairStart file last) × (leastBelow (last + 1) (badPair (aritiesIn file) (pairsIn file)) ≡ none)
+invariant-loop file arities pairs symbols last₀ at₀ last at = (last < pairs) × (at ≡ pair_start file last) × (least_below (last + 1) (bad_pair_lem (arities_in file) (pairs_in file)) ≡ none)
 
 abbrev decreases-loop : tie.decreases-loop
 decreases-loop file arities pairs symbols last₀ at₀ last at = pairs - last
@@ -59,7 +59,7 @@ alike-requires c κs =
     let file = start.args.file.now in
     let at = c.before.before.before.loop.at in
     let symbols = c.before.before.before.before.number_at.ensures ∙ sym (as_many file start.args.arities.now start.requires.0 (omega arith)) in
-    (omega arith, subst (λ s. OrderedRun s (numbersFrom file at)) symbols (c.before.in_order.ensures (not-false _ c.if1.false)))
+    (omega arith, subst (λ s. OrderedRun s (numbers_from file at)) symbols (c.before.in_order.ensures (not-false _ c.if1.false)))
 
 add-result-2 : tie.Need-overflow-add-result-2 invariant-loop decreases-loop
 add-result-2 c = search rules
@@ -86,13 +86,13 @@ loop-again c =
     let head = c.before.before.before.before.before.loop in
     let file = start.args.file.now in
     let arities = start.args.arities.now in
-    let numbers = numbersFrom file head.at in
+    let numbers = numbers_from file head.at in
     let ordered = c.before.before.before.in_order.ensures (not-false _ c.before.before.if1.false) in
     let alike = c.before.alike.ensures (not-false _ c.if2.false) in
     let symbols = c.before.before.before.before.before.before.number_at.ensures ∙ sym (as_many file arities start.requires.0 (omega arith)) ∙ ap length start.requires.0 in (
       omega arith,
       omega arith,
-      run_good (aritiesIn file) (pairsIn file) (short_in file (λ j. (known j).fits)) head.last numbers (λ j l. pair_of_run file head.last head.at head.invariant.1 j (omega arith))
+      run_good (arities_in file) (pairs_in file) (short_in file (λ j. (known j).fits)) head.last numbers (λ j l. pair_of_run file head.last head.at head.invariant.1 j (omega arith))
           (subst (λ s. OrderedRun s numbers) symbols ordered) (subst (λ ar. AlikeRun ar numbers) start.requires.0 alike) head.invariant.2,
     )
 

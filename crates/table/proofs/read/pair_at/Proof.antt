@@ -4,8 +4,8 @@ use mathlib.Core.Path.{◌≡◌, sym, ap, ◌∙◌}
 use Prim.Native.Nat.{◌+◌, ◌*◌}
 use native.Mathlib.Omega.{arith}
 use Rattle.meaning.specs.File.{pair_at}
-use Rattle.meaning.specs.Tables.{pairStart}
-use Rattle.meaning.proofs.Bytes.{pair_in}
+use Rattle.meaning.specs.Tables.{pair_start}
+use Rattle.meaning.proofs.Bytes.{pair_in_lem}
 use Rattle.table.proofs.Reading.{pair_inside, size_is}
 use Rattle.table.proofs.read.pair_at.Statement.{statement}
 use Rattle.table.proofs.read.pair_at.Tie as tie
@@ -37,8 +37,8 @@ returns c =
     let file = c.before.before.before.args.file.now in
     let k = c.before.before.before.args.k in
     let pre = c.before.before.before.requires in
-    let start : 10 + c.before.symbol-count.result + 6 * k ≡ pairStart file k = omega (arith, size_is file pre.0) in
-    c.pair-from.ensures ∙ ap (pair_at file) start ∙ sym (pair_in file k pre.1)
+    let start : 10 + c.before.symbol-count.result + 6 * k ≡ pair_start file k = omega (arith, size_is file pre.0) in
+    c.pair-from.ensures ∙ ap (pair_at file) start ∙ sym (pair_in_lem file k pre.1)
 
 pub pair-at-spec : {M : Type 1} → statement M
 pair-at-spec =

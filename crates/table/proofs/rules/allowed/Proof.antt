@@ -6,7 +6,7 @@ use Prim.Native.Nat.{ℕ, ◌<◌}
 use native.Mathlib.Decide.{dec_lt}
 use native.Mathlib.Omega.{arith}
 use lib.Dec.{leb}
-use Rattle.meaning.specs.Limits.{mostSymbols, mostPairs}
+use Rattle.meaning.specs.Limits.{most_symbols, most_pairs}
 use Rattle.meaning.specs.Refusals.{row, at0, outside, row2}
 use Rattle.table.proofs.rules.allowed.Statement.{statement}
 use Rattle.table.proofs.rules.allowed.Tie as tie
@@ -29,13 +29,13 @@ returns-2 : tie.Need-returns-2
 unfolding row2
 returns-2 c =
     let a = c.before.before.args in
-    rw (le-ltb a.symbols 1 (omega arith), lt-ltb mostSymbols a.symbols (omega arith))
+    rw (le-ltb a.symbols 1 (omega arith), lt-ltb most_symbols a.symbols (omega arith))
 
 returns-3 : tie.Need-returns-3
 unfolding row2
 returns-3 c =
     let a = c.before.before.args in
-    rw (le-ltb a.symbols 1 (omega arith), le-ltb mostSymbols a.symbols (omega arith)) (ap (λ b. row 2 (at0 b)) (at_most mostPairs a.pairs))
+    rw (le-ltb a.symbols 1 (omega arith), le-ltb most_symbols a.symbols (omega arith)) (ap (λ b. row 2 (at0 b)) (at_most most_pairs a.pairs))
 
 pub allowed-spec : {M : Type 1} → statement M
 allowed-spec = tie.close (tie.spec returns returns-2 returns-3)

@@ -10,7 +10,7 @@ use native.Mathlib.Numerals.{add-one}
 use native.Mathlib.Omega.{arith}
 use lib.Dec.{ltb}
 use lib.ListN.{length, get_or}
-use Rattle.theory.specs.Least.{leastBelow}
+use Rattle.theory.specs.Least.{least_below}
 use Rattle.meaning.specs.Refusals.{row, row3}
 use Rattle.meaning.proofs.First.{least_on, least_at}
 use Rattle.table.proofs.rules.high_arity.Statement.{statement}
@@ -21,7 +21,7 @@ abbrev high : List ℕ → ℕ → Bool
 high arities a = ltb 8 (get_or arities a 0)
 
 abbrev invariant-loop : tie.invariant-loop
-invariant-loop arities n k₀ k = (n ≡ length arities) × (k ≤ n) × (leastBelow k (high arities) ≡ none)
+invariant-loop arities n k₀ k = (n ≡ length arities) × (k ≤ n) × (least_below k (high arities) ≡ none)
 
 abbrev decreases-loop : tie.decreases-loop
 decreases-loop arities n k₀ k = n - k
@@ -57,7 +57,7 @@ returns-2 c =
     let t = c.before.before.args.arities.now in
     let k = c.before.loop.k in
     let e : k ≡ length t = omega arith in
-    ap (row 3) (ap (λ n. leastBelow n (high t)) (sym e) ∙ c.before.loop.invariant.2)
+    ap (row 3) (ap (λ n. least_below n (high t)) (sym e) ∙ c.before.loop.invariant.2)
 
 pub high-arity-spec : {M : Type 1} → statement M
 high-arity-spec =

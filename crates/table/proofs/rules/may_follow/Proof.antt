@@ -5,7 +5,7 @@ use native.Mathlib.Omega.{arith}
 use lib.ListN.{length, get_or}
 use mathlib.Core.Path.{ap}
 use lib.Dec.{ltb}
-use Rattle.theory.specs.Pairs.{listedTop}
+use Rattle.theory.specs.Pairs.{listed_top}
 use Rattle.table.proofs.rules.may_follow.Statement.{statement}
 use Rattle.table.proofs.rules.may_follow.Tie as tie
 
@@ -38,7 +38,7 @@ returns-4 c =
 returns-5 : tie.Need-returns-5
 returns-5 c =
     let a = c.before.before.before.before.before.before.before.before.args in
-    rw (lt-ltb a.lower a.higher (omega arith), lt-ltb a.higher (length a.arities.now) (omega arith), eq-eqb (get_or a.arities.now a.lower 0) (get_or a.arities.now a.higher 0) (omega arith), le-ltb a.degree 1 (omega arith), lt-ltb listedTop a.degree (omega arith))
+    rw (lt-ltb a.lower a.higher (omega arith), lt-ltb a.higher (length a.arities.now) (omega arith), eq-eqb (get_or a.arities.now a.lower 0) (get_or a.arities.now a.higher 0) (omega arith), le-ltb a.degree 1 (omega arith), lt-ltb listed_top a.degree (omega arith))
 
 key-requires : tie.Need-key-requires
 key-requires c κs = search rules
@@ -46,7 +46,7 @@ key-requires c κs = search rules
 returns-6 : tie.Need-returns-6
 returns-6 c =
     let a = c.before.before.before.before.before.before.before.before.before.args in
-    rw (lt-ltb a.lower a.higher (omega arith), lt-ltb a.higher (length a.arities.now) (omega arith), eq-eqb (get_or a.arities.now a.lower 0) (get_or a.arities.now a.higher 0) (omega arith), le-ltb a.degree 1 (omega arith), le-ltb listedTop a.degree (omega arith)) (ap (ltb a.previous) c.key.ensures)
+    rw (lt-ltb a.lower a.higher (omega arith), lt-ltb a.higher (length a.arities.now) (omega arith), eq-eqb (get_or a.arities.now a.lower 0) (get_or a.arities.now a.higher 0) (omega arith), le-ltb a.degree 1 (omega arith), le-ltb listed_top a.degree (omega arith)) (ap (ltb a.previous) c.key.ensures)
 
 pub may-follow-spec : {M : Type 1} → statement M
 may-follow-spec =

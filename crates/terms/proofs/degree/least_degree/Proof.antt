@@ -4,13 +4,13 @@ use mathlib.Core.Logic.{⊎_elim}
 use Prim.Native.Nat.{◌-◌}
 use native.Mathlib.Omega.{arith}
 use lib.ListN.{length}
-use Rattle.meaning.specs.File.{tableIn}
+use Rattle.meaning.specs.File.{table_in}
 use Rattle.terms.proofs.Degrees.{Left, node_symbol, all_left, one_less, no_less, none_left}
 use Rattle.terms.proofs.degree.least_degree.Statement.{statement}
 use Rattle.terms.proofs.degree.least_degree.Tie as tie
 
 abbrev invariant-loop : tie.invariant-loop
-invariant-loop file counts rows one two least₀ i₀ least i = Left (tableIn file) one two i least
+invariant-loop file counts rows one two least₀ i₀ least i = Left (table_in file) one two i least
 
 abbrev decreases-loop : tie.decreases-loop
 decreases-loop file counts rows one two least₀ i₀ least i = length one - i

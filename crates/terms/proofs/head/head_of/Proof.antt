@@ -4,7 +4,7 @@ use mathlib.Core.Path.{◌≡◌, refl, sym, ap, ◌∙◌}
 use mathlib.Core.Bool.{true, false}
 use mathlib.Core.Option.{some as just}
 use native.Mathlib.Omega.{arith}
-use Rattle.meaning.specs.File.{tableIn}
+use Rattle.meaning.specs.File.{table_in}
 use Rattle.terms.specs.Kinds.{kind_of}
 use Rattle.terms.specs.declared.kind.Kind.{Kind}
 use Rattle.terms.specs.declared.kind.Kind.TheVariants.{Symbol, Variable, Neither}
@@ -15,7 +15,7 @@ use Rattle.terms.proofs.head.head_of.Tie as tie
 
 -- the kind that the arm names is the node's over the file's table
 named : (c : tie.After-kind-of) (k : Kind) → c.kind-of.result ≡ k
-    → kind_of (tableIn c.before.before.before.args.file.now).size c.before.before.before.args.node ≡ k
+    → kind_of (table_in c.before.before.before.args.file.now).size c.before.before.before.args.node ≡ k
 named c k e =
     let n = c.before.before.before.args.node in
     ap (λ s. kind_of s n) (sym c.before.symbol-count.ensures.0) ∙ sym c.kind-of.ensures ∙ e

@@ -9,8 +9,8 @@ use native.Mathlib.Omega.{arith}
 use lib.ListN.{length, get_or}
 use Rattle.theory.specs.Table.{Table}
 use Rattle.theory.specs.Read.{ends, fault, walk, faulty, reading}
-use Rattle.meaning.specs.File.{tableIn}
-use Rattle.terms.specs.Heads.{following, takesIn}
+use Rattle.meaning.specs.File.{table_in}
+use Rattle.terms.specs.Heads.{following, takes_in}
 use Rattle.terms.proofs.Levels.{ToRead, first_node, list_ends_lem, node_strays, level_opens, too_deep, next_beside, next_around, term_ends}
 use Rattle.terms.proofs.Readings.{too_long, all_of_it, more_after, fault_in}
 use Rattle.terms.proofs.Told.{told}
@@ -18,7 +18,7 @@ use Rattle.terms.proofs.reading.read.Statement.{statement}
 use Rattle.terms.proofs.reading.read.Tie as tie
 
 abbrev invariant-loop : tie.invariant-loop
-invariant-loop file variables list outer₀ depth₀ here₀ at₀ outer depth here at = ToRead (tableIn file) variables list outer depth here at
+invariant-loop file variables list outer₀ depth₀ here₀ at₀ outer depth here at = ToRead (table_in file) variables list outer depth here at
 
 abbrev decreases-loop : tie.decreases-loop
 decreases-loop file variables list outer₀ depth₀ here₀ at₀ outer depth here at = length list - at
@@ -30,7 +30,7 @@ module _ (c : tie.At-loop invariant-loop decreases-loop) where
   entry = c.before.before.before.before
 
   abbrev T : Table
-  T = tableIn entry.args.file.now
+  T = table_in entry.args.file.now
 
   abbrev nodes : List ℕ
   nodes = entry.args.list.now
@@ -48,13 +48,13 @@ module _ (c : tie.After-known-told invariant-loop decreases-loop) where
   head = c.before.before.before.before.before.before
 
   takes : following (T head) (entry head).args.variables (get_or (nodes head) head.loop.at 0) ≡ just c.before.arguments.given.0.0
-  takes = told takesIn c.before.before.before.head_of.ensures c.before.arguments.given.1
+  takes = told takes_in c.before.before.before.head_of.ensures c.before.arguments.given.1
 
 cast-if1 : tie.Need-overflow-cast-if1 invariant-loop decreases-loop
 cast-if1 c = search rules
 
 returns : tie.Need-returns invariant-loop decreases-loop
-returns c = let a = c.before.before.before.args in too_long (tableIn a.file.now) a.variables a.list.now (omega arith)
+returns c = let a = c.before.before.before.args in too_long (table_in a.file.now) a.variables a.list.now (omega arith)
 
 loop-holds : tie.Need-loop-init invariant-loop decreases-loop
 loop-holds c = first_node _ _ _ _ (search rules)
@@ -80,7 +80,7 @@ cast-t18 c = search rules
 returns-2 : tie.Need-returns-2 invariant-loop decreases-loop
 returns-2 c =
     let at = c.before.before.before.before.before in
-    fault-is at _ (node_strays _ _ _ _ _ _ _ at.loop.invariant (told takesIn c.before.before.head_of.ensures c.enum_told.given.1))
+    fault-is at _ (node_strays _ _ _ _ _ _ _ at.loop.invariant (told takes_in c.before.before.head_of.ensures c.enum_told.given.1))
 
 add_at : tie.Need-overflow-add-at invariant-loop decreases-loop
 add_at c = search rules

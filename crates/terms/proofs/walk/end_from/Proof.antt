@@ -5,13 +5,13 @@ use mathlib.Core.Path.{sym, ◌∙◌}
 use Prim.Native.Nat.{◌-◌}
 use native.Mathlib.Omega.{arith}
 use lib.ListN.{length}
-use Rattle.meaning.specs.File.{tableIn}
+use Rattle.meaning.specs.File.{table_in}
 use Rattle.terms.proofs.Spans.{same_end, ToCome, first_to_come, symbol_passed, other_passed, none_to_come}
 use Rattle.terms.proofs.walk.end_from.Statement.{statement}
 use Rattle.terms.proofs.walk.end_from.Tie as tie
 
 abbrev invariant-loop : tie.invariant-loop
-invariant-loop file list at symbols to-come₀ end₀ to-come end = ToCome (tableIn file) list at to-come end
+invariant-loop file list at symbols to-come₀ end₀ to-come end = ToCome (table_in file) list at to-come end
 
 abbrev decreases-loop : tie.decreases-loop
 decreases-loop file list at symbols to-come₀ end₀ to-come end = length list - end

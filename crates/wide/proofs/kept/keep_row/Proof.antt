@@ -3,15 +3,15 @@ use borrow.Author.Rules.{rules}
 use Prim.Native.Nat.{◌+◌, ◌%◌, ◌≤◌}
 use native.Mathlib.Omega.{arith}
 use lib.ListN.{length}
-use Rattle.meaning.specs.File.{tableIn}
-use Rattle.wide.specs.Index.{keptRows}
+use Rattle.meaning.specs.File.{table_in}
+use Rattle.wide.specs.Index.{kept_rows}
 use Rattle.wide.proofs.Keeping.{place_within, degrees_there, chained_more}
 use Rattle.wide.proofs.kept.keep_row.Statement.{statement}
 use Rattle.wide.proofs.kept.keep_row.Tie as tie
 
 -- the place is within the list
-within : (s : tie.Start) → s.args.from + (tableIn s.args.file.now).size ≤ length s.args.index.now
-within s = omega (arith, s.requires.1.1, place_within s.args.file.now s.args.index.now s.requires.0.2 s.requires.0.1.0.room (s.args.a % keptRows) (omega arith))
+within : (s : tie.Start) → s.args.from + (table_in s.args.file.now).size ≤ length s.args.index.now
+within s = omega (arith, s.requires.1.1, place_within s.args.file.now s.args.index.now s.requires.0.2 s.requires.0.1.0.room (s.args.a % kept_rows) (omega arith))
 
 slice-aggregate-lay-degrees : tie.Need-slice-aggregate-lay-degrees
 slice-aggregate-lay-degrees c = search rules

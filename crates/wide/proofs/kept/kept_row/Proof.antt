@@ -5,8 +5,8 @@ use mathlib.Core.List.{List}
 use Prim.Native.Nat.{ℕ, ◌+◌, ◌*◌, ◌%◌, ◌≤◌}
 use native.Mathlib.Omega.{arith}
 use lib.ListN.{length, get_or}
-use Rattle.meaning.specs.File.{tableIn}
-use Rattle.wide.specs.Index.{keptRows, tagsAt, row_at}
+use Rattle.meaning.specs.File.{table_in}
+use Rattle.wide.specs.Index.{kept_rows, tags_at, row_at}
 use Rattle.wide.proofs.Keeping.{places_apart, place_within}
 use Rattle.wide.proofs.kept.kept_row.Statement.{statement}
 use Rattle.wide.proofs.kept.kept_row.Tie as tie
@@ -17,19 +17,19 @@ module _ (s : tie.Start) where
 
   -- its place among the places
   abbrev slot : ℕ
-  slot = s.args.a % keptRows
+  slot = s.args.a % kept_rows
 
-  tag_is : 3 * s.args.counts.symbols + 1 + s.args.counts.pairs + slot ≡ tagsAt fileAt + slot
+  tag_is : 3 * s.args.counts.symbols + 1 + s.args.counts.pairs + slot ≡ tags_at fileAt + slot
   tag_is = omega (arith, s.pre.0.symbols-are, s.pre.0.pairs-are)
 
-  from_is : 3 * s.args.counts.symbols + 1 + s.args.counts.pairs + keptRows + slot * s.args.counts.symbols ≡ row_at fileAt slot
-  from_is = ap₂ (λ (n p : ℕ). 3 * n + 1 + p + keptRows + slot * n) s.pre.0.symbols-are s.pre.0.pairs-are
+  from_is : 3 * s.args.counts.symbols + 1 + s.args.counts.pairs + kept_rows + slot * s.args.counts.symbols ≡ row_at fileAt slot
+  from_is = ap₂ (λ (n p : ℕ). 3 * n + 1 + p + kept_rows + slot * n) s.pre.0.symbols-are s.pre.0.pairs-are
 
   -- the places take no more than so much
   few : slot * s.args.counts.symbols ≤ 32 * 512
-  few = omega (arith, s.pre.0.few, places_apart s.args.counts.symbols slot keptRows (omega arith))
+  few = omega (arith, s.pre.0.few, places_apart s.args.counts.symbols slot kept_rows (omega arith))
 
-  within : row_at fileAt slot + (tableIn fileAt).size ≤ length s.args.index.now
+  within : row_at fileAt slot + (table_in fileAt).size ≤ length s.args.index.now
   within = place_within fileAt s.args.index.now s.pre.2 s.pre.1.0.room slot (omega arith)
 
 cast-symbols : tie.Need-overflow-cast-symbols

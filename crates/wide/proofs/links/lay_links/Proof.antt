@@ -5,19 +5,19 @@ use mathlib.Core.List.{List}
 use Prim.Native.Nat.{ℕ, ◌+◌, ◌-◌, ◌*◌, ◌≤◌, ◌<◌}
 use native.Mathlib.Omega.{arith}
 use lib.ListN.{length, length-set}
-use Rattle.meaning.specs.File.{number, pairCount, tableIn}
-use Rattle.meaning.specs.Tables.{pairStart, higher_at}
+use Rattle.meaning.specs.File.{number, pair_count_lem, table_in}
+use Rattle.meaning.specs.Tables.{pair_start, higher_at}
 use Rattle.table.proofs.Reading.{size_is, pair_inside}
 use Rattle.degrees.specs.Rows.{Rows}
 use Rattle.degrees.proofs.Listed.{pair_symbols}
-use Rattle.wide.specs.Index.{heads_at, links_at, indexRoom, Linked}
+use Rattle.wide.specs.Index.{heads_at, links_at, index_room, Linked}
 use Rattle.wide.proofs.Chains.{rows_kept, none_linked, linked_next, rows_next}
 use Rattle.wide.proofs.links.lay_links.Statement.{statement}
 use Rattle.wide.proofs.links.lay_links.Tie as tie
 
 abbrev invariant-loop : tie.invariant-loop
 invariant-loop file index₀ symbols heads links at₀ k₀ k-end index at k =
-    (at ≡ pairStart file k) × (k ≤ pairCount file) × (length index ≡ length index₀) × Rows file index × Linked file k index
+    (at ≡ pair_start file k) × (k ≤ pair_count_lem file) × (length index ≡ length index₀) × Rows file index × Linked file k index
 
 abbrev decreases-loop : tie.decreases-loop
 decreases-loop file index₀ symbols heads links at₀ k₀ k-end index at k = k-end - k
@@ -31,17 +31,17 @@ module _ (c : tie.In-loop invariant-loop decreases-loop) where
   abbrev fileAt : List ℕ
   fileAt = start.args.file.now
 
-  below : c.before.loop.k < pairCount fileAt
+  below : c.before.loop.k < pair_count_lem fileAt
   below = omega (arith, start.pre.0.pairs_are)
 
-  inside : pairStart fileAt c.before.loop.k + 6 ≤ length fileAt
+  inside : pair_start fileAt c.before.loop.k + 6 ≤ length fileAt
   inside = pair_inside fileAt start.pre.0.sound c.before.loop.k below
 
-  higher : higher_at fileAt c.before.loop.k < (tableIn fileAt).size
+  higher : higher_at fileAt c.before.loop.k < (table_in fileAt).size
   higher = (pair_symbols fileAt start.pre.0.sound c.before.loop.k below).1
 
   -- the list is as long as it was
-  room : indexRoom fileAt ≤ length c.before.loop.index
+  room : index_room fileAt ≤ length c.before.loop.index
   room = omega (arith, start.pre.2, c.before.loop.invariant.2, c.before.before.before.before.clear.auto.0)
 
 -- the head of its chain
@@ -74,7 +74,7 @@ loop-holds c =
     let file = s.args.file.now in
     let counted = s.requires.0 in
     let cleared = c.before.before.clear.ensures in
-    let room : indexRoom file ≤ length c.before.before.clear.new.0 = omega (arith, s.requires.2, c.before.before.clear.auto.0) in (
+    let room : index_room file ≤ length c.before.before.clear.new.0 = omega (arith, s.requires.2, c.before.before.clear.auto.0) in (
       omega (arith, counted.symbols_are, size_is file counted.sound),
       omega arith,
       refl,
@@ -150,7 +150,7 @@ same_length c = search rules
 returns : tie.Need-returns invariant-loop decreases-loop
 returns c =
     let s = c.before.before.before.before.before.before.before.before.before in
-    let e : c.before.loop.k ≡ pairCount s.args.file.now = omega (arith, s.requires.0.pairs-are, c.before.loop.invariant.1) in
+    let e : c.before.loop.k ≡ pair_count_lem s.args.file.now = omega (arith, s.requires.0.pairs-are, c.before.loop.invariant.1) in
     (c.before.loop.invariant.3, rw e at c.before.loop.invariant.4)
 
 pub lay-links-spec : {M : Type 1} → statement M

@@ -4,8 +4,8 @@ use mathlib.Core.Path.{◌≡◌, sym, ap, ◌∙◌}
 use Prim.Native.Nat.{ℕ, ◌+◌, ◌*◌, ◌≤◌}
 use native.Mathlib.Omega.{arith}
 use lib.ListN.{length, get_or, length-set}
-use Rattle.meaning.specs.File.{tableIn}
-use Rattle.wide.specs.Index.{keptRows, linked_at, tagsAt, indexRoom}
+use Rattle.meaning.specs.File.{table_in}
+use Rattle.wide.specs.Index.{kept_rows, linked_at, tags_at, index_room}
 use Rattle.wide.proofs.Chains.{marked}
 use Rattle.wide.proofs.Keeping.{place_within}
 use Rattle.wide.proofs.links.link_pairs.Statement.{statement}
@@ -20,7 +20,7 @@ module _ (c : tie.After-lay-links) where
   long = c.lay-links.auto.1.1.0 ∙ c.before.before.before.before.lay-rows.auto.1.1.0
 
   -- the tags are within it, and more
-  tags-within : tagsAt start.args.file.now + keptRows + (tableIn start.args.file.now).size ≤ length c.lay-links.new.1.1.0
+  tags-within : tags_at start.args.file.now + kept_rows + (table_in start.args.file.now).size ≤ length c.lay-links.new.1.1.0
   tags-within = omega (arith, long, place_within start.args.file.now start.args.index.now start.pre.2 start.pre.1.room 0 (omega arith))
 
 cast-symbols : tie.Need-overflow-cast-symbols
@@ -85,8 +85,8 @@ returns-2 c =
     let counted = s.pre.0 in
     let cleared = c.before.before.clear in
     let mark_is : 2 * s.args.counts.symbols ≡ linked_at file = omega (arith, counted.symbols_are) in
-    let tags_are : 3 * s.args.counts.symbols + 1 + s.args.counts.pairs ≡ tagsAt file = omega (arith, counted.symbols_are, counted.pairs_are) in
-    let room : indexRoom file ≤ length cleared.new.0 = omega (arith, s.pre.1.room, long laid, cleared.auto.0) in
+    let tags_are : 3 * s.args.counts.symbols + 1 + s.args.counts.pairs ≡ tags_at file = omega (arith, counted.symbols_are, counted.pairs_are) in
+    let room : index_room file ≤ length cleared.new.0 = omega (arith, s.pre.1.room, long laid, cleared.auto.0) in
     marked file counted.sound _ _ mark_is tags_are _ cleared.new.0 cleared.auto.0 room cleared.ensures laid.lay-links.ensures.0 laid.lay-links.ensures.1
 
 pub link-pairs-spec : {M : Type 1} → statement M

@@ -6,8 +6,8 @@ use Prim.Native.Nat.{ℕ, ◌+◌, ◌-◌, ◌*◌, ◌≤◌, ◌<◌}
 use native.Mathlib.Omega.{arith}
 use lib.Dec.{eqb}
 use lib.ListN.{length, get_or, length-set}
-use Rattle.meaning.specs.File.{number, symbolCount, pairCount}
-use Rattle.meaning.specs.Tables.{pairStart, lower_at, higher_at, degree_at}
+use Rattle.meaning.specs.File.{number, symbol_count_lem, pair_count_lem}
+use Rattle.meaning.specs.Tables.{pair_start, lower_at, higher_at, degree_at}
 use Rattle.meaning.proofs.First.{last_below_lem}
 use Rattle.table.proofs.Reading.{size_is, pair_inside}
 use Rattle.degrees.proofs.Listed.{pair_symbols}
@@ -34,20 +34,20 @@ module _ (c : tie.In-loop invariant-loop decreases-loop) where
   abbrev k : ℕ
   k = c.before.loop.next - 1
 
-  below : k < pairCount fileAt
+  below : k < pair_count_lem fileAt
   below = omega (arith, c.before.loop.invariant.1.within)
 
-  size : start.args.counts.symbols ≡ symbolCount fileAt
+  size : start.args.counts.symbols ≡ symbol_count_lem fileAt
   size = start.pre.0.0.symbols_are ∙ size_is fileAt start.pre.0.0.sound
 
-  inside : pairStart fileAt k + 6 ≤ length fileAt
+  inside : pair_start fileAt k + 6 ≤ length fileAt
   inside = pair_inside fileAt start.pre.0.0.sound k below
 
-  at_is : 10 + start.args.counts.symbols - 6 + 6 * c.before.loop.next ≡ pairStart fileAt k
+  at_is : 10 + start.args.counts.symbols - 6 + 6 * c.before.loop.next ≡ pair_start fileAt k
   at_is = omega (arith, size)
 
   -- the index has its chains, and the link of the pair is there
-  linked : Linked fileAt (pairCount fileAt) start.args.index.now
+  linked : Linked fileAt (pair_count_lem fileAt) start.args.index.now
   linked = start.pre.0.1.0.linked start.pre.0.1.1
 
   abbrev link : ℕ

@@ -8,7 +8,7 @@ use native.Mathlib.Omega.{arith}
 use lib.ListN.{length, get_or, set, length-set}
 use lib.Seq.{get_or-set_same, get_or-set_other}
 use Rattle.theory.specs.Table.{Table, Lawful}
-use Rattle.meaning.specs.File.{tableIn}
+use Rattle.meaning.specs.File.{table_in}
 use Rattle.meaning.proofs.Sound.{sound}
 use Rattle.wide.proofs.row.lay_degrees.Statement.{statement}
 use Rattle.wide.proofs.row.lay_degrees.Tie as tie
@@ -46,7 +46,7 @@ returns c =
     let s = c.before.before.before.before.before.before.before.before.before.before.before in
     let file = s.args.file.now in
     let chain = c.before.before.lay-chain in
-    with_itself (tableIn file) (sound file s.requires.0.sound).lawful s.args.a chain.new.1.1.1.1.0 s.requires.2 (omega (arith, s.requires.3, long c)) chain.ensures
+    with_itself (table_in file) (sound file s.requires.0.sound).lawful s.args.a chain.new.1.1.1.1.0 s.requires.2 (omega (arith, s.requires.3, long c)) chain.ensures
 
 pub lay-degrees-spec : {M : Type 1} → statement M
 lay-degrees-spec =

@@ -6,8 +6,8 @@ use mathlib.Core.List.{List}
 use Prim.Native.Nat.{ℕ, ◌+◌, ◌-◌, ◌≤◌, ◌<◌}
 use native.Mathlib.Omega.{arith}
 use lib.ListN.{length, get_or, length-set}
-use Rattle.meaning.specs.File.{number, pairCount, tableIn}
-use Rattle.meaning.specs.Tables.{pairStart}
+use Rattle.meaning.specs.File.{number, pair_count_lem, table_in}
+use Rattle.meaning.specs.Tables.{pair_start}
 use Rattle.table.proofs.Reading.{size_is, pair_inside}
 use Rattle.degrees.proofs.Listed.{pair_symbols}
 use Rattle.wide.proofs.Walking.{RowTo, row_first, row_next, row_end}
@@ -32,10 +32,10 @@ module _ (c : tie.In-loop invariant-loop decreases-loop) where
   abbrev to : RowTo fileAt start.args.a c.before.loop.at c.before.loop.row
   to = c.before.loop.invariant.1
 
-  before-end : c.before.loop.at < pairStart fileAt (pairCount fileAt)
+  before-end : c.before.loop.at < pair_start fileAt (pair_count_lem fileAt)
   before-end = omega (arith, start.pre.0.pairs_are, start.pre.0.symbols_are, size_is fileAt start.pre.0.sound)
 
-  below : to.k < pairCount fileAt
+  below : to.k < pair_count_lem fileAt
   below = omega (arith, before-end, to.at_is)
 
   inside : c.before.loop.at + 6 ≤ length fileAt
@@ -74,8 +74,8 @@ loop-holds c =
     let file = s.args.file.now in
     let counted = s.requires.0 in
     let cleared = c.before.before.before.before.clear in
-    let room : (tableIn file).size ≤ length cleared.new.0 = omega (arith, s.requires.3, cleared.auto.0) in
-    let zeros : (t : ℕ) → t < (tableIn file).size → get_or cleared.new.0 t 0 ≡ 0 = λ t l. cleared.ensures.zero t (omega arith) (omega (arith, counted.symbols_are)) in
+    let room : (table_in file).size ≤ length cleared.new.0 = omega (arith, s.requires.3, cleared.auto.0) in
+    let zeros : (t : ℕ) → t < (table_in file).size → get_or cleared.new.0 t 0 ≡ 0 = λ t l. cleared.ensures.zero t (omega arith) (omega (arith, counted.symbols_are)) in
     (refl, row_first file counted.sound s.args.a c.row-start.result _ c.row-start.ensures.0 room zeros _ (omega (arith, counted.symbols_are, size_is file counted.sound)))
 
 number-at-requires : tie.Need-number-at-requires invariant-loop decreases-loop

@@ -5,9 +5,9 @@ use mathlib.Core.List.{List}
 use Prim.Native.Nat.{ℕ, ◌+◌, ◌*◌, ◌-◌, ◌/◌, ◌≤◌, ◌<◌}
 use native.Mathlib.Omega.{arith}
 use lib.ListN.{length}
-use Rattle.meaning.specs.File.{number, symbolCount, pairCount}
+use Rattle.meaning.specs.File.{number, symbol_count_lem, pair_count_lem}
 use Rattle.meaning.specs.Refusals.{SoundFile}
-use Rattle.meaning.specs.Tables.{pairStart, lower_at}
+use Rattle.meaning.specs.Tables.{pair_start, lower_at}
 use Rattle.meaning.proofs.Recognised.{recognised}
 use Rattle.table.proofs.Reading.{size_is, pair_inside}
 use Rattle.wide.proofs.Walking.{StartsBetween, starts_anywhere, starts_here, starts_last, starts_behind, starts_not_behind}
@@ -32,22 +32,22 @@ module _ (c : tie.In-loop invariant-loop decreases-loop) where
   ok : SoundFile fileAt
   ok = entry.pre.0.sound
 
-  few : pairCount fileAt ≤ 8192
+  few : pair_count_lem fileAt ≤ 8192
   few = ((recognised fileAt).0 ok).few_pairs_lem
 
   abbrev middle : ℕ
   middle = (c.before.loop.low + c.before.loop.high) / 2
 
-  low-there : c.before.loop.low < pairCount fileAt
+  low-there : c.before.loop.low < pair_count_lem fileAt
   low-there = omega (arith, c.before.loop.invariant.1.within)
 
-  middle-there : middle < pairCount fileAt
+  middle-there : middle < pair_count_lem fileAt
   middle-there = omega (arith, c.before.loop.invariant.1.within)
 
-  start_is : 10 + entry.args.counts.symbols ≡ 10 + symbolCount fileAt
+  start_is : 10 + entry.args.counts.symbols ≡ 10 + symbol_count_lem fileAt
   start_is = omega (arith, entry.pre.0.symbols_are, size_is fileAt ok)
 
-  inside : (k : ℕ) → k < pairCount fileAt → pairStart fileAt k + 6 ≤ length fileAt
+  inside : (k : ℕ) → k < pair_count_lem fileAt → pair_start fileAt k + 6 ≤ length fileAt
   inside = pair_inside fileAt ok
 
   read_is : (k : ℕ) → number fileAt (10 + entry.args.counts.symbols + 6 * k) ≡ lower_at fileAt k

@@ -9,16 +9,16 @@ use native.Mathlib.Omega.{arith}
 use lib.ListN.{get_or}
 use Rattle.table.specs.Runs.{pair_of, Alike}
 use Rattle.table.proofs.Runs.{one_more}
-use Rattle.writer.specs.Counted.{numbersFrom}
+use Rattle.writer.specs.Counted.{numbers_from}
 use Rattle.writer.proofs.pairs.alike.Statement.{statement}
 use Rattle.writer.proofs.pairs.alike.Tie as tie
 
 -- where the higher symbol of a pair stands among the numbers
-higher-of : (numbers : List ℕ) (at j : ℕ) → numbersFrom numbers at (3 * (j + 1) + 1) ≡ get_or numbers (at + 3 * (j + 1) + 1) 0
+higher-of : (numbers : List ℕ) (at j : ℕ) → numbers_from numbers at (3 * (j + 1) + 1) ≡ get_or numbers (at + 3 * (j + 1) + 1) 0
 higher-of numbers at j = ap (λ i. get_or numbers i 0) (omega arith)
 
 abbrev invariant-loop : tie.invariant-loop
-invariant-loop numbers at arities j₀ j = (j ≤ 16) × ((i : ℕ) → i < j → Alike arities (pair_of (numbersFrom numbers at) (i + 1)))
+invariant-loop numbers at arities j₀ j = (j ≤ 16) × ((i : ℕ) → i < j → Alike arities (pair_of (numbers_from numbers at) (i + 1)))
 
 abbrev decreases-loop : tie.decreases-loop
 decreases-loop numbers at arities j₀ j = 16 - j
@@ -87,8 +87,8 @@ loop-again c =
     let head = c.before.before.before.before.before.before.loop in
     let ns = a.numbers.now in
     let higher = higher-of ns a.at head.j in
-    let here : Alike a.arities.now (pair_of (numbersFrom ns a.at) (head.j + 1)) = rw higher (omega arith) in
-    (omega arith, one_more (λ i. Alike a.arities.now (pair_of (numbersFrom ns a.at) (i + 1))) head.j head.invariant.1 here)
+    let here : Alike a.arities.now (pair_of (numbers_from ns a.at) (head.j + 1)) = rw higher (omega arith) in
+    (omega arith, one_more (λ i. Alike a.arities.now (pair_of (numbers_from ns a.at) (i + 1))) head.j head.invariant.1 here)
 
 returns-2 : tie.Need-returns-2 invariant-loop decreases-loop
 returns-2 c passed j l = c.before.loop.invariant.1 j (omega arith)

@@ -7,12 +7,12 @@ use native.Mathlib.Nat.{not-suc-le-zero}
 use native.Mathlib.Omega.{arith}
 use Rattle.table.specs.Runs.{LanePasses}
 use Rattle.table.proofs.Runs.{or_none, one_more, lanes_ordered}
-use Rattle.writer.specs.Counted.{numbersFrom}
+use Rattle.writer.specs.Counted.{numbers_from}
 use Rattle.writer.proofs.pairs.in_order.Statement.{statement}
 use Rattle.writer.proofs.pairs.in_order.Tie as tie
 
 abbrev invariant-loop : tie.invariant-loop
-invariant-loop numbers at symbols fault₀ lane₀ fault lane = (lane ≤ 48) × (fault ≡ 0 → (l : ℕ) → l < lane → LanePasses symbols (numbersFrom numbers at) l)
+invariant-loop numbers at symbols fault₀ lane₀ fault lane = (lane ≤ 48) × (fault ≡ 0 → (l : ℕ) → l < lane → LanePasses symbols (numbers_from numbers at) l)
 
 abbrev decreases-loop : tie.decreases-loop
 decreases-loop numbers at symbols fault₀ lane₀ fault lane = 48 - lane
@@ -73,12 +73,12 @@ loop-again c =
     let high : a.at + (head.lane + 1) ≡ i + 1 = omega arith in
     let lower : a.at + (head.lane + 3) ≡ i + 3 = omega arith in
     let here : a.at + (head.lane + 4) ≡ i + 4 = omega arith in
-    (omega arith, λ none. let both = or_none _ _ none in one_more (LanePasses a.symbols (numbersFrom a.numbers.now a.at)) head.lane (head.invariant.1 both.0) (rw (high, lower, here) (c.lane-fault.ensures both.1)))
+    (omega arith, λ none. let both = or_none _ _ none in one_more (LanePasses a.symbols (numbers_from a.numbers.now a.at)) head.lane (head.invariant.1 both.0) (rw (high, lower, here) (c.lane-fault.ensures both.1)))
 
 returns : tie.Need-returns invariant-loop decreases-loop
 returns c passed =
     let a = c.before.before.before.args in
-    lanes_ordered a.symbols (numbersFrom a.numbers.now a.at) (λ lane l. c.before.loop.invariant.1 (eqb-true _ _ passed) lane (omega arith))
+    lanes_ordered a.symbols (numbers_from a.numbers.now a.at) (λ lane l. c.before.loop.invariant.1 (eqb-true _ _ passed) lane (omega arith))
 
 pub in-order-spec : {M : Type 1} → statement M
 in-order-spec =

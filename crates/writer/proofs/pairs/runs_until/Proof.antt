@@ -5,18 +5,18 @@ use mathlib.Core.Path.{◌≡◌, refl}
 use mathlib.Core.Option.{none}
 use Prim.Native.Nat.{◌+◌, ◌-◌, ◌*◌, ◌<◌}
 use native.Mathlib.Omega.{arith}
-use Rattle.theory.specs.Least.{leastBelow}
-use Rattle.meaning.specs.File.{pairsOf}
-use Rattle.meaning.specs.Refusals.{badPair}
+use Rattle.theory.specs.Least.{least_below}
+use Rattle.meaning.specs.File.{pairs_of}
+use Rattle.meaning.specs.Refusals.{bad_pair_lem}
 use Rattle.table.proofs.Runs.{run_good}
-use Rattle.writer.specs.Counted.{numbersFrom}
+use Rattle.writer.specs.Counted.{numbers_from}
 use Rattle.writer.proofs.Numbers.{short_pairs}
 use Rattle.writer.proofs.Stops.{two_symbols, pair_of_run}
 use Rattle.writer.proofs.pairs.runs_until.Statement.{statement}
 use Rattle.writer.proofs.pairs.runs_until.Tie as tie
 
 abbrev invariant-loop : tie.invariant-loop
-invariant-loop arities numbers pairs symbols last₀ last = (last < pairs) × (leastBelow (last + 1) (badPair arities (pairsOf numbers)) ≡ none)
+invariant-loop arities numbers pairs symbols last₀ last = (last < pairs) × (least_below (last + 1) (bad_pair_lem arities (pairs_of numbers)) ≡ none)
 
 abbrev decreases-loop : tie.decreases-loop
 decreases-loop arities numbers pairs symbols last₀ last = pairs - last
@@ -71,7 +71,7 @@ loop-again c =
     let ordered = c.before.before.before.in_order.ensures (not-false _ c.before.before.if1.false) in
     let alike = c.before.alike.ensures (not-false _ c.if2.false) in (
       omega arith,
-      run_good a.arities.now (pairsOf ns) (short_pairs ns (λ j. (known j).fits)) head.last (numbersFrom ns (3 * head.last)) (λ j l. pair_of_run ns head.last (3 * head.last) refl j) ordered alike head.invariant.1,
+      run_good a.arities.now (pairs_of ns) (short_pairs ns (λ j. (known j).fits)) head.last (numbers_from ns (3 * head.last)) (λ j l. pair_of_run ns head.last (3 * head.last) refl j) ordered alike head.invariant.1,
     )
 
 add-result-3 : tie.Need-overflow-add-result-3 invariant-loop decreases-loop

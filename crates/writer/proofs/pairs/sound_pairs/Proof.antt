@@ -9,18 +9,18 @@ use Prim.Native.Nat.{◌/◌, ◌-◌, ◌≤◌}
 use native.Mathlib.Numerals.{add-one}
 use native.Mathlib.Omega.{arith}
 use lib.ListN.{length}
-use Rattle.theory.specs.Least.{leastBelow}
-use Rattle.meaning.specs.File.{pairsOf}
-use Rattle.meaning.specs.Refusals.{badPair}
+use Rattle.theory.specs.Least.{least_below}
+use Rattle.meaning.specs.File.{pairs_of}
+use Rattle.meaning.specs.Refusals.{bad_pair_lem}
 use Rattle.meaning.proofs.First.{least_on}
-use Rattle.table.specs.Keys.{keyBefore}
+use Rattle.table.specs.Keys.{key_before_lem}
 use Rattle.writer.proofs.Numbers.{length-pairs_of}
 use Rattle.writer.proofs.Stops.{stops_at, stops_behind, good_three, key_next}
 use Rattle.writer.proofs.pairs.sound_pairs.Statement.{statement}
 use Rattle.writer.proofs.pairs.sound_pairs.Tie as tie
 
 abbrev invariant-loop : tie.invariant-loop
-invariant-loop arities numbers whole k₀ previous₀ k previous = (whole ≡ length numbers / 3) × (k ≤ whole) × (previous ≡ keyBefore (pairsOf numbers) k) × (leastBelow k (badPair arities (pairsOf numbers)) ≡ none)
+invariant-loop arities numbers whole k₀ previous₀ k previous = (whole ≡ length numbers / 3) × (k ≤ whole) × (previous ≡ key_before_lem (pairs_of numbers) k) × (least_below k (bad_pair_lem arities (pairs_of numbers)) ≡ none)
 
 abbrev decreases-loop : tie.decreases-loop
 decreases-loop arities numbers whole k₀ previous₀ k previous = whole - k
@@ -28,7 +28,7 @@ decreases-loop arities numbers whole k₀ previous₀ k previous = whole - k
 -- whether the pair may follow is whether it is good
 told : (c : tie.After-may-follow invariant-loop decreases-loop)
     → let a = c.before.before.before.before.before.before.before.before.before.before.args in
-    c.may-follow.result ≡ not (badPair a.arities.now (pairsOf a.numbers.now) c.before.before.before.before.before.loop.k)
+    c.may-follow.result ≡ not (bad_pair_lem a.arities.now (pairs_of a.numbers.now) c.before.before.before.before.before.loop.k)
 told c =
     let a = c.before.before.before.before.before.before.before.before.before.before.args in
     let short = c.before.before.before.before.before.before.before.before.shared-slice-known2.given in
@@ -79,7 +79,7 @@ returns c =
     let a = c.before.before.before.before.before.before.before.before.before.before.before.args in
     let head = c.before.before.before.before.before.before.loop in
     let ns = a.numbers.now in
-    let bad : badPair a.arities.now (pairsOf ns) head.k ≡ true = not-false _ (sym (told c.before) ∙ not_true _ c.if1.true) in
+    let bad : bad_pair_lem a.arities.now (pairs_of ns) head.k ≡ true = not-false _ (sym (told c.before) ∙ not_true _ c.if1.true) in
     stops_at a.arities.now ns head.k head.invariant.3 bad (omega (arith, length-pairs_of ns))
 
 key-requires : tie.Need-key-requires invariant-loop decreases-loop
@@ -96,7 +96,7 @@ loop-again c =
     let a = c.before.before.before.before.before.before.before.before.before.before.before.before.args in
     let head = c.before.before.before.before.before.before.before.loop in
     let ns = a.numbers.now in
-    let bad = badPair a.arities.now (pairsOf ns) in
+    let bad = bad_pair_lem a.arities.now (pairs_of ns) in
     let good : bad head.k ≡ false = not_true _ (sym (told c.before.before) ∙ not-false _ c.before.if1.false) in
     (refl, omega arith, c.key.ensures ∙ sym (key_next ns head.k), rw (add-one head.k) (least_on bad head.k head.invariant.3 good))
 
