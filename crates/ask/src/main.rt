@@ -1,4 +1,6 @@
 // Answers the question on standard input, on standard output.
+#![tactic(auto)]
+
 ghost use Rattle.std.specs.Prelude.{◌≤◌, length};
 ghost use Rattle.meaning.specs.Program.{output};
 ghost use Rattle.shape.specs.Rooms.{most_room};

@@ -1,5 +1,7 @@
 // Cases from standard input through the public calls, an answer to a line. The stored input and output are made by tests/make_call_cases.py:
 // the answers come from a reference that was written from the rules alone, those on tables and the writer from tests/table_cases.txt, by hand.
+#![tactic(auto)]
+
 mod ask;
 mod buffers;
 mod input;

@@ -1,4 +1,6 @@
 // The degree of two symbol numbers.
+#![tactic(auto)]
+
 pub mod rows;
 
 ghost use Rattle.std.specs.Prelude.{◌≡◌, ◌+◌, ◌<◌, min, max, length};

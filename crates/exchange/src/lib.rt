@@ -1,5 +1,7 @@
 // Headings from exchange records: the name and the dates of a record's first 100 field, looked up in a list of known strings, as three nodes.
 // The call takes any bytes and any lists; its answer, and what it leaves in lent memory, are fixed by its promise in specs/.
+#![tactic(auto)]
+
 ghost use Rattle.std.specs.Prelude.{◌≡◌};
 ghost use Rattle.std.proofs.Math.Option.{none};
 ghost use Rattle.meaning.specs.Refusals.{number_of, place_of, row};

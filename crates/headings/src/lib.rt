@@ -1,5 +1,7 @@
 // What can be asked of headings and terms: the degree of two headings, the subterm at an index, the nearer of two candidates. Every call takes
 // any bytes and any lists; its answer is fixed by its promise in specs/.
+#![tactic(auto)]
+
 ghost use Rattle.std.specs.Prelude.{◌≡◌};
 ghost use Rattle.theory.specs.Read.{reading};
 ghost use Rattle.meaning.specs.File.{table_in};

@@ -1,5 +1,7 @@
 // Says the headings of the exchange records on standard input, by the list of known strings in the file that the first argument names: it is read once
 // and tested once, and each record is answered or refused, by its number.
+#![tactic(auto)]
+
 ghost use Rattle.std.specs.Prelude.{◌*◌, ◌≤◌, ◌<◌, length};
 ghost use Rattle.marc.specs.Known.{known_in};
 ghost use Rattle.lines.specs.Lines.{line_room};

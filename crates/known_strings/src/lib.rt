@@ -1,4 +1,6 @@
 // The list of known strings with their numbers, as it is lent: which entry may not be listed, and the number of a string.
+#![tactic(auto)]
+
 pub mod bad;
 mod chains;
 pub mod check;

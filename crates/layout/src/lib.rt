@@ -1,4 +1,6 @@
 // The bytes of a table file, laid over what was there part by part.
+#![tactic(auto)]
+
 ghost use Rattle.std.specs.Prelude.{◌≡◌, ◌+◌, ◌*◌, ◌≤◌, length};
 ghost use Rattle.meaning.specs.Limits.{most_symbols, most_pairs};
 ghost use Rattle.meaning.specs.File.{bytes_of, header};

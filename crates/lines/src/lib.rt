@@ -1,3 +1,5 @@
 // The answer as lines of text.
+#![tactic(auto)]
+
 pub mod filling;
 pub mod line;

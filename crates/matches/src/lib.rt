@@ -1,5 +1,7 @@
 // The match. It takes any bytes, any lists and any cut; its answer, and what it leaves in both buffers, are fixed
 // by its promise in specs/.
+#![tactic(auto)]
+
 mod memory;
 
 ghost use Rattle.std.specs.Prelude.{◌≡◌, not, ◌≤◌, length};

@@ -1,4 +1,6 @@
 // The symbols near each symbol of a heading.
+#![tactic(auto)]
+
 ghost use Rattle.std.specs.Prelude.{◌≡◌, ℕ, ◌+◌, ◌-◌, ◌*◌, ◌<◌, ◌≤◌, max, length, get_or};
 ghost use Rattle.meaning.specs.Limits.{set_words_lem, set_room};
 ghost use Rattle.meaning.specs.File.{table_in};

@@ -1,4 +1,6 @@
 // What the programs say, to standard output in large pieces.
+#![tactic(auto)]
+
 pub mod long;
 pub mod pending;
 pub mod say;

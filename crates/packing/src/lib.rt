@@ -1,4 +1,6 @@
 // All variables of the pattern, packed.
+#![tactic(auto)]
+
 ghost use Rattle.std.specs.Prelude.{◌≡◌, [], ◌∷◌, ◌+◌, ◌*◌, ◌≤◌, length};
 ghost use Rattle.theory.specs.Least.{least as leastOf};
 ghost use Rattle.meaning.specs.Limits.{span_width};

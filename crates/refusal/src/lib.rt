@@ -1,4 +1,6 @@
 // Why a call is refused: a case for each number of the documents' list, with the place where the number has one of its own.
+#![tactic(auto)]
+
 ghost use Rattle.std.specs.Prelude.{◌≡◌};
 ghost use Rattle.meaning.specs.Refusals.{number_of, place_of};
 ghost use Rattle.refusal.specs.Told.{told};

@@ -1,4 +1,6 @@
 // Answers the questions on standard input, one after the other, on standard output.
+#![tactic(auto)]
+
 ghost use Rattle.std.specs.Prelude.{◌≡◌, ◌≤◌, length};
 ghost use Rattle.lines.specs.Lines.{line_room};
 ghost use Rattle.shape.specs.Rooms.{most_room};

@@ -1,4 +1,6 @@
 // Answers that were saved when a set had four words. Only their sets have to change: each becomes one of today, with zeros in its further words.
+#![tactic(auto)]
+
 ghost use Rattle.std.specs.Prelude.{◌≡◌, ◌+◌, ◌*◌, ◌≤◌, ◌<◌, length, get_or};
 ghost use Rattle.meaning.specs.Limits.{set_words_lem};
 ghost use Rattle.meaning.specs.Saved.{saved_words, widened_set};

@@ -1,6 +1,8 @@
 // Sets of symbols as words of bits, made, asked and combined by value.
 //
 // Contracts speak of members, but where words are read from a list or put into one. That the words themselves follow from the members is `same_set` of proofs/Laws.
+#![tactic(auto)]
+
 ghost use Rattle.std.specs.Prelude.{◌≡◌, true, false, ◌&&◌, ◌||◌, ◌↔◌, ℕ, ◌+◌, ◌≤◌, ◌<◌, eqb, length, get_or};
 ghost use Rattle.meaning.specs.Limits.{set_words_lem, set_room};
 ghost use Rattle.meaning.specs.Over.{over};

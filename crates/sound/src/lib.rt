@@ -1,4 +1,6 @@
 // Whether bytes are a table file.
+#![tactic(auto)]
+
 mod runs;
 
 ghost use Rattle.std.specs.Prelude.{◌≡◌, [], ◌∷◌, not, ◌≤◌, length};

@@ -1,4 +1,6 @@
 // The table file: the rules that its arities and pairs keep, and what it says of its symbols and pairs.
+#![tactic(auto)]
+
 pub mod lanes;
 pub mod number;
 pub mod read;

@@ -1,6 +1,8 @@
 // What can be asked of a table: whether bytes are one, the degree of two symbol numbers, the arity of a symbol and the pair at an index, read
 // back; and the table writer. Every call takes any bytes and any lists; its answer, and what it leaves in lent memory, are fixed by its
 // promise in specs/.
+#![tactic(auto)]
+
 pub mod writing;
 
 ghost use Rattle.tables.specs.Tables.{IsTable, SymbolDegree, ArityOf, PairAt};

@@ -1,4 +1,6 @@
 // Lists of nodes as they are lent: what kind a node is, where a term in a list ends, whether a list is a term, and the degree of two headings.
+#![tactic(auto)]
+
 pub mod degree;
 pub mod head;
 pub mod kind;

@@ -1,4 +1,6 @@
 // Text put into a buffer: each function puts its text from a place on and answers the place after it.
+#![tactic(auto)]
+
 ghost use Rattle.std.specs.Prelude.{[], ◌∷◌, ◌+◌, ◌^◌, ◌≤◌, ◌<◌, length};
 ghost use Rattle.meaning.specs.Program.{digits};
 ghost use Rattle.text.specs.Texts.{PutBy, numeral};

@@ -36,7 +36,7 @@ module _ (T : Table) (L : Lawful T) (c : ℕ) (pos : 0 < c) (cut : c ≤ 1000) w
   form t ts val os sel = made (choose (size t) (λ k s. (in_set T c (t ∷ ts) k s ≡ true) × (shared T (t ∷ ts) k s ≡ val k)) sel)
     where
       made : (φ : ℕ → ℕ) × ((k : ℕ) → k < size t → (in_set T c (t ∷ ts) k (φ k) ≡ true) × (shared T (t ∷ ts) k (φ k) ≡ val k)) → Form (t ∷ ts) val
-      made r = record { term = u; over = ou; reaches = shared_reaches T L u ou c cut (t ∷ ts) os sh; values = λ k l. rw (relabel_at T.size t φ k l) (r.1 k l).1 }
+      made r = record { term = u; over = ou; reaches = shared_reaches T L u ou c cut (t ∷ ts) os sh; values = λ k l. subst (λ (s : ℕ). shared T (t ∷ ts) k s ≡ val k) (inv (relabel_at T.size t φ k l)) (r.1 k l).1 }
         where
           φ : ℕ → ℕ
           φ = r.0
@@ -52,7 +52,7 @@ module _ (T : Table) (L : Lawful T) (c : ℕ) (pos : 0 < c) (cut : c ≤ 1000) w
               (λ k l. (set_symbol T c (t ∷ ts) k (φ k) (r.1 k l).0, L.alike (φ k) (at T t k) (omega (arith, near k l))))
 
           sh : (k : ℕ) → k < size u → c ≤ shared T (t ∷ ts) k (at T u k)
-          sh k l = let l' : k < size t = omega (arith, relabel_size t φ) in rw (relabel_at T.size t φ k l') (near k l')
+          sh k l = let l' : k < size t = omega (arith, relabel_size t φ) in subst (λ (s : ℕ). c ≤ shared T (t ∷ ts) k s) (inv (relabel_at T.size t φ k l')) (near k l')
 
   -- in a set that is not empty, a symbol that shares the most, and one that shares the least
   pub symbol_most : (ts : List Term) (k : ℕ) → some T.size (in_set T c ts k) ≡ true → Symbol ts k (highest_at T c ts k)

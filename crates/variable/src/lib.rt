@@ -1,4 +1,6 @@
 // All positions of one variable.
+#![tactic(auto)]
+
 ghost use Rattle.std.specs.Prelude.{ℕ, ◌*◌, ◌<◌, ◌≤◌, length, get_or};
 ghost use Rattle.theory.specs.Stands.{size_of};
 ghost use Rattle.meaning.specs.Limits.{set_words_lem};

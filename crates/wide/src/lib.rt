@@ -1,5 +1,7 @@
 // The lowest and the highest degree at a position of a variable where many symbols are shared. The degrees of each faced symbol with all symbols
 // are laid out in one row of numbers, by its own pairs alone, and the least of these rows is gone over once: so no pair is sought.
+#![tactic(auto)]
+
 mod clear;
 mod kept;
 pub mod links;

@@ -1,4 +1,6 @@
 // The table writer on numbers: it writes the whole file or changes nothing.
+#![tactic(auto)]
+
 mod pairs;
 
 ghost use Rattle.std.specs.Prelude.{◌≡◌, List, ◌*◌, ◌≤◌, length};
