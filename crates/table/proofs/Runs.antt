@@ -8,7 +8,7 @@ use Prim.Native.Nat.{ℕ, zero, suc, ◌+◌, ◌*◌, ◌<◌}
 use native.Mathlib.Numerals.{unary_clauses, add-one}
 use native.Mathlib.Omega.{arith}
 use native.Mathlib.Decide.{ℕ_discrete}
-use borrow.Author.Tests.{lt-ltb, le-ltb, eq-eqb, not_true}
+use borrow.Author.Tests.{lt-ltb, le-ltb, eq-eqb, not-true}
 use lib.Bits.{bit_or, or_add_and, and_le_l, and_le_r}
 use lib.Dec.{ltb}
 use lib.ListN.{length, get_or}
@@ -59,7 +59,7 @@ module _ (arities : List ℕ) (pairs : List Pair) (short : (j : ℕ) → Short (
   next_tests p (pair lower higher degree) next alike = tests arities (pair_key p) lower higher degree next alike
 
   good_next : (k : ℕ) → Next (length arities) (at k) (at (suc k)) → Alike arities (at (suc k)) → bad (suc k) ≡ false
-  good_next k next alike = not_true _ (sym (good_pair arities pairs (suc k) short) ∙ next_tests (at k) (at (suc k)) next alike)
+  good_next k next alike = not-true _ (sym (good_pair arities pairs (suc k) short) ∙ next_tests (at k) (at (suc k)) next alike)
 
   -- where n pairs after pair k are good, no pair is bad up to their end
   good_on : (k n : ℕ) → least_below (suc k) bad ≡ none → ((j : ℕ) → j < n → bad (suc (k + j)) ≡ false) → least_below (suc (k + n)) bad ≡ none

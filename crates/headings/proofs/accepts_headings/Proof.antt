@@ -1,6 +1,6 @@
 -- What the check and the readings found is what the rows say.
 use borrow.Author.Rules.{rules}
-use borrow.Author.Tests.{not_true, not-false}
+use borrow.Author.Tests.{not-true, not-false}
 use mathlib.Core.Path.{◌≡◌, refl, sym, ◌∙◌}
 use mathlib.Core.Bool.{true, false}
 use Rattle.theory.specs.Read.{reading}
@@ -31,13 +31,13 @@ is-term-requires : tie.Need-is-term-requires
 is-term-requires c κs = table-sound c
 
 returns : tie.Need-returns
-returns c = headings_accepted _ _ _ _ (table-sound c.before.before) false _ _ (sym c.before.is-term.ensures ∙ not_true _ c.if1.true) refl refl
+returns c = headings_accepted _ _ _ _ (table-sound c.before.before) false _ _ (sym c.before.is-term.ensures ∙ not-true _ c.if1.true) refl refl
 
 is-term-requires-2 : tie.Need-is-term-requires-2
 is-term-requires-2 c κs = table-sound c.before.before
 
 returns-2 : tie.Need-returns-2
-returns-2 c = headings_accepted _ _ _ _ (table-sound c.before.before.before.before) true false _ (heading-whole c.before.before) (sym c.before.is-term2.ensures ∙ not_true _ c.if2.true) refl
+returns-2 c = headings_accepted _ _ _ _ (table-sound c.before.before.before.before) true false _ (heading-whole c.before.before) (sym c.before.is-term2.ensures ∙ not-true _ c.if2.true) refl
 
 is-term-requires-3 : tie.Need-is-term-requires-3
 is-term-requires-3 c κs = table-sound c.before.before.before.before

@@ -1,6 +1,6 @@
 -- Where nothing is refused the degrees choose.
 use borrow.Author.Rules.{rules}
-use borrow.Author.Tests.{not_true, not-false}
+use borrow.Author.Tests.{not-true, not-false}
 use mathlib.Core.Path.{◌≡◌, sym, ◌∙◌}
 use mathlib.Core.Bool.{true}
 use native.Mathlib.Omega.{arith}
@@ -19,7 +19,7 @@ accepts-headings-requires : tie.Need-accepts-headings-requires
 accepts-headings-requires c κs = search rules
 
 returns : tie.Need-returns
-returns c = sym (neither_nearer _ _ _ _ (sym c.before.accepts-headings.ensures ∙ not_true _ c.if1.true))
+returns c = sym (neither_nearer _ _ _ _ (sym c.before.accepts-headings.ensures ∙ not-true _ c.if1.true))
 
 heading-degree-requires : tie.Need-heading-degree-requires
 heading-degree-requires c κs = let s = all_sound _ _ _ _ (taken c) in (s.0, s.1, s.2)

@@ -1,6 +1,6 @@
 -- Where both are accepted the list is a term, so that a subterm stands at each index, and the part goes to where it ends; else it is empty.
 use borrow.Author.Rules.{rules}
-use borrow.Author.Tests.{not_true, not-false}
+use borrow.Author.Tests.{not-true, not-false}
 use mathlib.Core.Path.{◌≡◌, refl, sym, ◌∙◌}
 use mathlib.Core.Bool.{true}
 use native.Mathlib.Omega.{arith}
@@ -24,7 +24,7 @@ slice-aggregate-result : tie.Need-slice-aggregate-result
 slice-aggregate-result c = search rules
 
 returns : tie.Need-returns
-returns c = rw (no_subterm _ _ (sym c.before.before.accepts-term.ensures ∙ not_true _ c.before.if1.true) _) (record { holds = refl; block = refl; offset = omega arith })
+returns c = rw (no_subterm _ _ (sym c.before.before.accepts-term.ensures ∙ not-true _ c.before.if1.true) _) (record { holds = refl; block = refl; offset = omega arith })
 
 slice-aggregate-result-2 : tie.Need-slice-aggregate-result-2
 slice-aggregate-result-2 c = search rules

@@ -1,7 +1,7 @@
 -- No pair before those that are looked at singly is bad. The loop keeps that no pair passed is, so the one it stops at is the first; it keeps the last pair's
 -- key, and each pair is read where its six bytes stand.
 use borrow.Author.Rules.{rules}
-use borrow.Author.Tests.{not_true, not-false}
+use borrow.Author.Tests.{not-true, not-false}
 use mathlib.Core.Path.{◌≡◌, sym, ap, ◌∙◌}
 use mathlib.Core.Bool.{true, false, not}
 use mathlib.Core.Option.{none}
@@ -86,7 +86,7 @@ returns c =
     let f = c.before.before.before.before.before.before.before.before.before.before.before.args.file.now in
     let k = c.before.before.before.before.before.before.loop.k in
     let bad = bad_pair_lem (arities_in f) (pairs_in f) in
-    let is-bad : bad k ≡ true = not-false (bad k) (sym (told c.before) ∙ not_true _ c.if1.true) in
+    let is-bad : bad k ≡ true = not-false (bad k) (sym (told c.before) ∙ not-true _ c.if1.true) in
     ap (row 4) (least_at bad k (length (pairs_in f)) c.before.before.before.before.before.before.loop.invariant.3 is-bad (omega (arith, length-pairs_in f)))
 
 key-requires : tie.Need-key-requires invariant-loop decreases-loop
@@ -108,7 +108,7 @@ loop-again c =
     let i = c.before.before.before.before.before.before.before.loop.invariant in
     let l : k < pair_count_lem f = omega arith in
     let bad = bad_pair_lem (arities_in f) (pairs_in f) in
-    let is-good : bad k ≡ false = not_true (bad k) (sym (told c.before.before) ∙ not-false _ c.before.if1.false) in (
+    let is-good : bad k ≡ false = not-true (bad k) (sym (told c.before.before) ∙ not-false _ c.before.if1.false) in (
       omega arith,
       omega arith,
       rw (c.key.ensures, c.before.before.before.before.before.number_at.ensures, c.before.before.before.before.number-at2.ensures, i.1) (sym (key_next f k l)),

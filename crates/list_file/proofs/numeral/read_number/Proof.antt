@@ -1,6 +1,6 @@
 -- The digits that were passed are those of the value; the tests are those of the laws.
 use borrow.Author.Rules.{rules}
-use borrow.Author.Tests.{not_true, not-false, ltb-true, ltb-false}
+use borrow.Author.Tests.{not-true, not-false, ltb-true, ltb-false}
 use mathlib.Core.Path.{◌≡◌, sym, ◌∙◌}
 use mathlib.Core.Logic.{⊎_elim}
 use mathlib.Core.Bool.{false}
@@ -30,7 +30,7 @@ is-digit-requires c κs = search rules
 
 -- the byte is no digit
 other : (c : tie.Then1 invariant-loop decreases-loop) → is_digit_lem (get_or c.before.before.before.before.before.before.args.file.now c.before.before.before.before.loop.i 0) ≡ false
-other c = sym c.before.is_digit.ensures ∙ not_true _ c.if1.true
+other c = sym c.before.is_digit.ensures ∙ not-true _ c.if1.true
 
 -- the byte is a digit
 digit : (c : tie.Else1 invariant-loop decreases-loop) → Digit (get_or c.before.before.before.before.before.before.args.file.now c.before.before.before.before.loop.i 0)

@@ -2,7 +2,7 @@
 use borrow.Author.Rules.{rules}
 use Prim.Native.Nat.{◌-◌}
 use native.Mathlib.Omega.{arith}
-use borrow.Author.Tests.{leb-true, leb-false, not_true, not-false}
+use borrow.Author.Tests.{leb-true, leb-false, not-true, not-false}
 use Rattle.marc_input.specs.Cuts.{most_bytes}
 use Rattle.marc_input.proofs.Following.{filled_more}
 use Rattle.marc_input.proofs.Seeking.{Seeking, reads_left, fewer_left, seeking_first, seeking_on, sought_there, sought_over, sought_many}
@@ -55,7 +55,7 @@ loop-less c =
     let loop = c.before.before.before.before.before.before.before.before.before.before.before.before.before.before.loop in
     let fill = c.before.before.before.before.before.fill in
     fewer_left loop.buffer loop.now fill.result fill.new.0
-    (not_true _ c.before.before.before.before.before.before.before.before.before.before.if2.true)
+    (not-true _ c.before.before.before.before.before.before.before.before.before.before.if2.true)
     (leb-true (loop.now.end - loop.now.at) most_bytes c.before.before.before.before.before.before.before.before.if3.true)
     fill.ensures
 

@@ -2,7 +2,7 @@
 use borrow.Author.Rules.{rules}
 use mathlib.Core.Path.{sym, ◌∙◌}
 use native.Mathlib.Omega.{arith}
-use borrow.Author.Tests.{not_true, not-false}
+use borrow.Author.Tests.{not-true, not-false}
 use Rattle.marc_input.proofs.Said.{said_short, said_other, said_few, said_many}
 use Rattle.marc_input.proofs.cutting.said_length.Statement.{statement}
 use Rattle.marc_input.proofs.cutting.said_length.Tie as tie
@@ -22,7 +22,7 @@ returns-2 : tie.Need-returns-2
 returns-2 c =
     let s = c.before.before.before.before.before in
     said_other s.args.buffer.now s.args.rest s.requires.0 (omega arith)
-    (sym c.before.digits.ensures ∙ not_true _ c.if2.true)
+    (sym c.before.digits.ensures ∙ not-true _ c.if2.true)
 
 five-requires : tie.Need-five-requires
 five-requires c κs = (omega arith, sym c.before.digits.ensures ∙ not-false _ c.if2.false)

@@ -3,7 +3,7 @@ use borrow.Author.Rules.{rules}
 use mathlib.Core.Path.{sym, ◌∙◌}
 use Prim.Native.Nat.{◌+◌, ◌-◌, ◌<◌}
 use native.Mathlib.Omega.{arith}
-use borrow.Author.Tests.{not_true, not-false}
+use borrow.Author.Tests.{not-true, not-false}
 use Rattle.marc.specs.Stream.{behind_breaks}
 use Rattle.marc_input.specs.Passing.{uncounted}
 use Rattle.marc_input.proofs.PassedOver.{Passing, passing_first, passing_fill, passing_on, passing_to, passing_endless, none_behind, no_break_none, break_passes, break_stops}
@@ -51,7 +51,7 @@ returns-2 c =
     let p = passing_fill behind_breaks _ s.args.rest loop.buffer loop.now loop.counter loop.invariant 1 fill.result fill.new.0 fill.ensures in
     passing_to behind_breaks _ s.args.rest fill.new.0 fill.result loop.counter p fill.result.at fill.ensures.read.held.0
     (λ beyond may. break_stops fill.new.0 fill.result.at fill.result.end (omega (arith, fill.ensures.read.held.0)) fill.ensures.read.held.1
-    (sym c.before.is-break.ensures ∙ not_true _ c.if2.true) beyond)
+    (sym c.before.is-break.ensures ∙ not-true _ c.if2.true) beyond)
 
 add-now : tie.Need-overflow-add-now invariant-loop decreases-loop
 add-now c = let read = c.before.before.before.before.before.before.before.fill.ensures.read in search (rules, read.held)

@@ -1,6 +1,6 @@
 -- The rows of the leader, in their order; then what `check_fields` finds.
 use borrow.Author.Rules.{rules}
-use borrow.Author.Tests.{not_true, not-false}
+use borrow.Author.Tests.{not-true, not-false}
 use mathlib.Core.Path.{◌≡◌, sym, ◌∙◌}
 use mathlib.Core.Bool.{true}
 use Prim.Native.Nat.{◌-◌, ◌/◌}
@@ -34,7 +34,7 @@ digits-requires : tie.Need-digits-requires
 digits-requires c κs = search rules
 
 returns-2 : tie.Need-returns-2
-returns-2 c = no_length c.before.before.before.before.args.bytes.now (omega arith) (sym c.before.digits.ensures ∙ not_true _ c.if2.true)
+returns-2 c = no_length c.before.before.before.before.args.bytes.now (omega arith) (sym c.before.digits.ensures ∙ not-true _ c.if2.true)
 
 five-requires : tie.Need-five-requires
 five-requires c κs = (omega arith, is_number c)

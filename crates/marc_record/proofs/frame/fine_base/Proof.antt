@@ -1,6 +1,6 @@
 -- Each early return knows one more of the four tests.
 use borrow.Author.Rules.{rules}
-use borrow.Author.Tests.{not_true, not-false, lt-ltb, le-ltb, eq-eqb, ne_eqb}
+use borrow.Author.Tests.{not-true, not-false, lt-ltb, le-ltb, eq-eqb, ne_eqb}
 use mathlib.Core.Path.{◌≡◌, sym, ap, ◌∙◌}
 use mathlib.Core.Bool.{true, false, not}
 use Prim.Native.Nat.{◌-◌, ◌%◌}
@@ -20,7 +20,7 @@ digits-requires c κs = search rules
 returns : tie.Need-returns
 returns c =
     let r = c.before.before.before.args.bytes.now in
-    let d : digits_at r 12 5 ≡ false = sym c.before.digits.ensures ∙ not_true _ c.if1.true in
+    let d : digits_at r 12 5 ≡ false = sym c.before.digits.ensures ∙ not-true _ c.if1.true in
     rw d
 
 five-requires : tie.Need-five-requires

@@ -1,6 +1,6 @@
 -- Each early return knows one more of the four tests of an entry.
 use borrow.Author.Rules.{rules}
-use borrow.Author.Tests.{not_true, not-false, lt-ltb, le-ltb, eq-eqb, ne_eqb}
+use borrow.Author.Tests.{not-true, not-false, lt-ltb, le-ltb, eq-eqb, ne_eqb}
 use mathlib.Core.Path.{◌≡◌, sym, ◌∙◌}
 use mathlib.Core.Bool.{true, false}
 use mathlib.Core.Option.{none}
@@ -36,7 +36,7 @@ add-t10 c = search rules
 returns : tie.Need-returns
 returns c =
     let a = c.before.before.before.args in
-    let d : digits_at a.bytes.now (entry_at a.e + 3) 4 ≡ false = sym c.before.digits.ensures ∙ not_true _ c.if1.true in
+    let d : digits_at a.bytes.now (entry_at a.e + 3) 4 ≡ false = sym c.before.digits.ensures ∙ not-true _ c.if1.true in
     rw d
 
 add-four : tie.Need-overflow-add-four
@@ -67,7 +67,7 @@ returns-3 : tie.Need-returns-3
 returns-3 c =
     let a = c.before.before.before.before.before.before.before.args in
     let v = c.before.before.before.four.ensures.0 in
-    let d : digits_at a.bytes.now (entry_at a.e + 7) 5 ≡ false = sym c.before.digits2.ensures ∙ not_true _ c.if3.true in
+    let d : digits_at a.bytes.now (entry_at a.e + 7) 5 ≡ false = sym c.before.digits2.ensures ∙ not-true _ c.if3.true in
     rw (length-number c.before.before.before.before, ne_eqb (field_length a.bytes.now a.e) 0 (λ e. omega arith), d)
 
 add_five : tie.Need-overflow-add-five

@@ -1,6 +1,6 @@
 -- The loop keeps that what is left decides.
 use borrow.Author.Rules.{rules}
-use borrow.Author.Tests.{not_true, not-false}
+use borrow.Author.Tests.{not-true, not-false}
 use mathlib.Core.Path.{◌≡◌, sym, ap₂, ◌∙◌}
 use Prim.Native.Nat.{◌+◌, ◌-◌, ◌≤◌}
 use native.Mathlib.Omega.{arith}
@@ -35,7 +35,7 @@ returns : tie.Need-returns invariant-loop decreases-loop
 returns c =
     let a = c.before.before.before.before.before.before.args in
     let head = c.before.before.before.before.loop in
-    sym (digit_stops a.bytes.now a.at head.k a.n (omega arith) (sym c.before.is_digit.ensures ∙ not_true _ c.if1.true)) ∙ head.invariant.1
+    sym (digit_stops a.bytes.now a.at head.k a.n (omega arith) (sym c.before.is_digit.ensures ∙ not-true _ c.if1.true)) ∙ head.invariant.1
 
 add-k : tie.Need-overflow-add-k invariant-loop decreases-loop
 add-k c = search rules

@@ -1,7 +1,7 @@
 -- What was handed over, what stands and what is still to come is the whole text; each time the buffer is full or the text is over, so that less is
 -- left after each piece.
 use borrow.Author.Rules.{rules}
-use borrow.Author.Tests.{not_true, not-false}
+use borrow.Author.Tests.{not-true, not-false}
 use mathlib.Core.Path.{◌≡◌, refl, sym, ap, subst, ◌∙◌}
 use mathlib.Core.Bool.{true, false, false≢true}
 use native.Mathlib.Omega.{arith}
@@ -54,7 +54,7 @@ emptied : (c : tie.After-known-told invariant-loop decreases-loop) → HandedOve
 emptied c = subst (HandedOver c.before.before.before.before.before.before.before.loop.end) c.before.gone.given.1 c.before.before.before.write-out.ensures
 
 on-way : (c : tie.After-known-told invariant-loop decreases-loop) → c.before.before.before.before.before.before.before.loop.cursor ≡ End → ⊥
-on-way c = not-over (sym c.before.before.before.before.before.before.is-over.ensures ∙ not_true _ c.before.before.before.before.before.if1.true)
+on-way c = not-over (sym c.before.before.before.before.before.before.is-over.ensures ∙ not-true _ c.before.before.before.before.before.if1.true)
 
 fill-requires-2 : tie.Need-fill-requires-2 invariant-loop decreases-loop
 fill-requires-2 c κs = (c.before.before.before.before.before.before.before.before.before.before.before.before.before.before.before.before.requires.0.0, c.before.before.before.before.before.before.before.before.loop.invariant.on, omega (arith, (emptied c.before).1))
@@ -97,7 +97,7 @@ returns c =
     let a = c.before.before.before.before.before.before.before.before.before.before.before.before.before.before.args in
     let first = c.before.before.before.before.before.before.before.before.before.fill in
     let loop = c.before.before.before.before.before.before.loop in
-    let on-way = not-over (sym c.before.before.before.before.before.is-over.ensures ∙ not_true _ c.before.before.before.before.if1.true) in
+    let on-way = not-over (sym c.before.before.before.before.before.is-over.ensures ∙ not-true _ c.before.before.before.before.if1.true) in
     going_failed a.outcome a.spans.now a.sets.now a.out.now a.used first.result _ first.ensures loop.written loop.end loop.cursor loop.out loop.invariant on-way
 
 same-length-2 : tie.Need-same-length-2 invariant-loop decreases-loop

@@ -1,6 +1,6 @@
 -- Where the first pair is good the runs after it are; else no pair is claimed to be.
 use native.Mathlib.Omega.{arith}
-use borrow.Author.Tests.{not_true}
+use borrow.Author.Tests.{not-true}
 use mathlib.Core.Path.{sym, ◌∙◌}
 use borrow.Author.Rules.{rules}
 use Rattle.sound.proofs.runs.good_until.Statement.{statement}
@@ -18,7 +18,7 @@ first-good-requires c κs = search rules
 runs-until-requires : tie.Need-runs-until-requires
 runs-until-requires c κs =
     let p = c.before.before.before.before.before.requires in
-    (p.0, p.1, p.2, omega arith, not_true _ (sym c.before.first_Good.ensures ∙ c.if2.true))
+    (p.0, p.1, p.2, omega arith, not-true _ (sym c.before.first_Good.ensures ∙ c.if2.true))
 
 returns-2 : tie.Need-returns-2
 returns-2 c = search rules

@@ -1,6 +1,6 @@
 -- Where the first pair may stand after no pair, whose key is 0, the runs after it are good; else no pair is claimed to be.
 use borrow.Author.Rules.{rules}
-use borrow.Author.Tests.{not_true}
+use borrow.Author.Tests.{not-true}
 use native.Mathlib.Omega.{arith}
 use Rattle.writer.proofs.Stops.{good_three}
 use Rattle.writer.proofs.pairs.good_until.Statement.{statement}
@@ -32,7 +32,7 @@ runs-until-requires c κs =
     let start = c.before.before.before.before.before.before.before.before.before in
     let short = c.before.before.before.before.before.before.before.shared-slice-known2.given in
     let good = good_three start.args.arities.now start.args.numbers.now (λ j. (short j).fits) 0 in
-    (omega arith, start.requires, omega arith, not_true _ (rw (c.before.may-follow.ensures, good) at c.if3.true))
+    (omega arith, start.requires, omega arith, not-true _ (rw (c.before.may-follow.ensures, good) at c.if3.true))
 
 returns-3 : tie.Need-returns-3
 returns-3 c = search rules

@@ -1,7 +1,7 @@
 -- No pair before those that are looked at singly is bad. The loop keeps that no pair passed is, and the last one's key; so the pair it stops at is the first bad
 -- one, or all whole pairs are good.
 use borrow.Author.Rules.{rules}
-use borrow.Author.Tests.{not_true, not-false}
+use borrow.Author.Tests.{not-true, not-false}
 use mathlib.Core.Path.{◌≡◌, refl, sym, ◌∙◌}
 use mathlib.Core.Bool.{true, false, not}
 use mathlib.Core.Option.{none}
@@ -79,7 +79,7 @@ returns c =
     let a = c.before.before.before.before.before.before.before.before.before.before.before.args in
     let head = c.before.before.before.before.before.before.loop in
     let ns = a.numbers.now in
-    let bad : bad_pair_lem a.arities.now (pairs_of ns) head.k ≡ true = not-false _ (sym (told c.before) ∙ not_true _ c.if1.true) in
+    let bad : bad_pair_lem a.arities.now (pairs_of ns) head.k ≡ true = not-false _ (sym (told c.before) ∙ not-true _ c.if1.true) in
     stops_at a.arities.now ns head.k head.invariant.3 bad (omega (arith, length-pairs_of ns))
 
 key-requires : tie.Need-key-requires invariant-loop decreases-loop
@@ -97,7 +97,7 @@ loop-again c =
     let head = c.before.before.before.before.before.before.before.loop in
     let ns = a.numbers.now in
     let bad = bad_pair_lem a.arities.now (pairs_of ns) in
-    let good : bad head.k ≡ false = not_true _ (sym (told c.before.before) ∙ not-false _ c.before.if1.false) in
+    let good : bad head.k ≡ false = not-true _ (sym (told c.before.before) ∙ not-false _ c.before.if1.false) in
     (refl, omega arith, c.key.ensures ∙ sym (key_next ns head.k), rw (add-one head.k) (least_on bad head.k head.invariant.3 good))
 
 returns-2 : tie.Need-returns-2 invariant-loop decreases-loop

@@ -8,8 +8,7 @@ use native.Mathlib.Omega.{arith}
 use lib.Dec.{leb}
 use Rattle.meaning.specs.Limits.{most_symbols, most_pairs}
 use Rattle.meaning.specs.Refusals.{row, at0, outside, row2}
-use Rattle.table.proofs.rules.allowed.Statement.{statement}
-use Rattle.table.proofs.rules.allowed.Tie as tie
+use Rattle.table.proofs.rules.allowed.Goals as goal
 
 -- with nothing below the range, only the upper bound is tested
 at_most : (high n : ℕ) → outside 0 high n ≡ not (leb n high)
@@ -19,23 +18,20 @@ at_most high n = go (dec_lt high n)
     go (yes l) = rw (lt-leb n high l, le-ltb n 0 (omega arith), lt-ltb high n l)
     go (no l) = rw (le-leb n high (omega arith), le-ltb n 0 (omega arith), le-ltb high n (omega arith))
 
-returns : tie.Need-returns
+pub returns-then-symbols-lt1 : goal.returns-then-symbols-lt1
 unfolding row2
-returns c =
-    let a = c.before.args in
+returns-then-symbols-lt1 c =
+    let a = c.args in
     rw (lt-ltb a.symbols 1 (omega arith))
 
-returns-2 : tie.Need-returns-2
+pub returns-then-symbols-gt-MOST_SYMBOLS : goal.returns-then-symbols-gt-MOST_SYMBOLS
 unfolding row2
-returns-2 c =
-    let a = c.before.before.args in
+returns-then-symbols-gt-MOST_SYMBOLS c =
+    let a = c.args in
     rw (le-ltb a.symbols 1 (omega arith), lt-ltb most_symbols a.symbols (omega arith))
 
-returns-3 : tie.Need-returns-3
+pub returns : goal.returns
 unfolding row2
-returns-3 c =
-    let a = c.before.before.args in
+returns c =
+    let a = c.args in
     rw (le-ltb a.symbols 1 (omega arith), le-ltb most_symbols a.symbols (omega arith)) (ap (λ b. row 2 (at0 b)) (at_most most_pairs a.pairs))
-
-pub allowed-spec : {M : Type 1} → statement M
-allowed-spec = tie.close (tie.spec returns returns-2 returns-3)
