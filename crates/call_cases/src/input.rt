@@ -14,7 +14,7 @@ pub const LONGEST: usize = 24579;
 pub const TEXT: usize = 65535;
 
 // Which call, and the numbers that it takes besides the lists.
-#[derive(Drop)]
+#[derive(Clone, Copy)]
 pub struct Asked {
     pub kind: u16,
     pub x: u16,
@@ -23,7 +23,7 @@ pub struct Asked {
 }
 
 // What is asked, and how many bytes and numbers the lists have. The bytes may be more than 65,535, so their count is told as two numbers.
-#[derive(Drop)]
+#[derive(Clone, Copy)]
 pub struct Header {
     pub asked: Asked,
     pub bytes: u16,
@@ -33,7 +33,7 @@ pub struct Header {
     pub third: u16,
 }
 
-#[derive(Drop)]
+#[derive(Clone, Copy)]
 pub enum Next {
     Case(Header),
     End,

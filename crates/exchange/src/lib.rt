@@ -27,7 +27,7 @@ const NAME: u8 = b'a';
 const DATES: u8 = b'd';
 
 // Why no heading is read.
-#[derive(Drop)]
+#[derive(Clone, Copy)]
 pub enum Fault {
     // this entry of the list may not be listed
     List(usize),
@@ -77,28 +77,28 @@ impl Fault {
 }
 
 // What goes with a list of known strings: the heading symbol, the number of absent dates, and what the list's test says of it.
-#[derive(Drop)]
+#[derive(Clone, Copy)]
 pub struct Given {
     pub heading: u16,
     pub absent: u16,
     pub checked: Checked,
 }
 
-#[derive(Drop)]
+#[derive(Clone, Copy)]
 pub enum Headed {
     Written,
     Refused(Fault),
 }
 
 // The numbers of a name and its dates.
-#[derive(Drop)]
+#[derive(Clone, Copy)]
 enum Looked {
     Nodes(u16, u16),
     Refused(Fault),
 }
 
 // What a field has under a code.
-#[derive(Drop)]
+#[derive(Clone, Copy)]
 enum Part {
     // no such subfield
     Absent,

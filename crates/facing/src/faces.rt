@@ -15,7 +15,7 @@ use table::read::counts_of;
 use terms::kind::{Kind, kind_of};
 use terms::walk::end_from;
 
-#[derive(Drop)]
+#[derive(Clone, Copy)]
 pub enum Facing {
     // the pattern's symbol at this node is not near enough to the one that faces it
     Clash(usize),

@@ -3,7 +3,7 @@ ghost use Rattle.std.specs.Prelude.{◌≡◌, ◌+◌, ◌*◌, ◌<◌, length
 ghost use Rattle.theory.specs.Stands.{start_of, size_of, put_note_lem};
 
 // Where a subterm of the heading begins, and how many nodes it has.
-#[derive(Drop)]
+#[derive(Clone, Copy)]
 pub struct Note {
     pub start: u16,
     pub size: u16,

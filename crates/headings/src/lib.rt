@@ -17,7 +17,7 @@ use terms::reading::{Reading, read};
 use terms::walk::end_from;
 
 // Which of two candidates is nearer.
-#[derive(Drop)]
+#[derive(Clone, Copy)]
 pub enum Choice {
     // something is refused
     Neither,

@@ -15,7 +15,7 @@ use marc_input::passing::find_mark;
 use marc_input::rest::Rest;
 use output::pending::{Pending, must_write, settle};
 
-#[derive(Drop)]
+#[derive(Clone, Copy)]
 pub enum Turn {
     // the bytes that are not used yet, and how many are still to be written
     Go(Rest, usize),

@@ -22,7 +22,7 @@ use list_file::reading::{Got, read_file};
 use output::pending::write_out;
 use rooms::{LIST_ROOM, list_bytes, list_ends, list_numbers, record_buffer};
 
-#[derive(Drop)]
+#[derive(Clone, Copy)]
 pub enum Ending {
     // the list's file has another shape at this line
     BadLine(usize),

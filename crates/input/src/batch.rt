@@ -7,7 +7,7 @@ ghost use Rattle.input.specs.Unreads.{unread};
 use crate::reading::read_until;
 use table::number::number_at;
 
-#[derive(Drop)]
+#[derive(Clone, Copy)]
 pub enum Next {
     // the question, from the first number up to the second, and where the bytes end that are not used yet
     Question(usize, usize, usize),

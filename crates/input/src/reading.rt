@@ -4,7 +4,7 @@ ghost use Rattle.meaning.specs.Over.{over};
 ghost use Rattle.input.specs.Unreads.{unread, ReadBy};
 
 // Where the bytes stand that were read and are not used yet.
-#[derive(Drop)]
+#[derive(Clone, Copy)]
 pub struct Unread {
     pub at: usize,
     pub end: usize,

@@ -10,7 +10,7 @@ use crate::compare::{Order, compare};
 use crate::list::{count, string_at};
 use table::rules::Place;
 
-#[derive(Drop)]
+#[derive(Clone, Copy)]
 pub enum Checked {
     // this entry may not be listed, and it is the first
     Bad(usize),

@@ -4,7 +4,7 @@ ghost use Rattle.marc.specs.Known.{same};
 ghost use Rattle.known_strings.specs.Compared.{written_at, ComparedAs};
 
 // Where one string stands by another: byte by byte, and one that ends first stands first.
-#[derive(Drop)]
+#[derive(Clone, Copy)]
 pub enum Order {
     Before,
     Same,

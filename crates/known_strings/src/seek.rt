@@ -8,7 +8,7 @@ use crate::check::Checked;
 use crate::compare::{Order, compare, same_bytes};
 use crate::list::{count, part, string_at};
 
-#[derive(Drop)]
+#[derive(Clone, Copy)]
 pub enum Sought {
     Number(u16),
     Unlisted,

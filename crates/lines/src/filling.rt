@@ -6,7 +6,7 @@ ghost use Rattle.lines.specs.Filling.{FilledBy};
 use crate::line::{Cursor, LINE_ROOM, Line, next_line};
 use refusal::Outcome;
 
-#[derive(Drop)]
+#[derive(Clone, Copy)]
 pub struct Filled {
     // where the text ends
     pub end: usize,

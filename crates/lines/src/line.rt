@@ -11,7 +11,7 @@ use sets::SymbolSet;
 use text::{put_byte, put_number, put_text};
 
 // Which line comes next.
-#[derive(Drop)]
+#[derive(Clone, Copy)]
 pub enum Cursor {
     First,
     // a variable's own line
@@ -21,7 +21,7 @@ pub enum Cursor {
     End,
 }
 
-#[derive(Drop)]
+#[derive(Clone, Copy)]
 pub enum Line {
     // where the line ends, and the cursor after it
     Text(usize, Cursor),

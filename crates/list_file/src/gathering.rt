@@ -6,21 +6,21 @@ ghost use Rattle.list_file.specs.Listings.{ListingBy};
 use crate::numeral::{Numeral, read_number};
 use text::put_text;
 
-#[derive(Drop)]
+#[derive(Clone, Copy)]
 pub enum First {
     // the heading symbol, the number of absent dates, and the byte behind the line
     Of(u16, u16, usize),
     Other,
 }
 
-#[derive(Drop)]
+#[derive(Clone, Copy)]
 pub enum Line {
     // the string's number, the byte behind the line, and where the text ends that was gathered
     Of(u16, usize, usize),
     Other,
 }
 
-#[derive(Drop)]
+#[derive(Clone, Copy)]
 pub enum Listing {
     // the heading symbol, the number of absent dates, how many strings, and how many bytes they have
     Known(u16, u16, usize, usize),

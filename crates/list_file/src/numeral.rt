@@ -7,7 +7,7 @@ use marc_record::number::{digit, is_digit};
 // Numbers have 16 bits.
 const MOST: usize = 65535;
 
-#[derive(Drop)]
+#[derive(Clone, Copy)]
 pub enum Numeral {
     // its value, and the byte behind it
     Value(u16, usize),

@@ -2,7 +2,7 @@
 ghost use Rattle.std.specs.Prelude.{length};
 ghost use Rattle.list_file.specs.Reads.{GotBy};
 
-#[derive(Drop)]
+#[derive(Clone, Copy)]
 pub enum Got {
     // how many there are
     Bytes(usize),

@@ -17,7 +17,7 @@ const FEWEST_BYTES: usize = 26;
 // A record's length has so many digits.
 const LENGTH_DIGITS: usize = 5;
 
-#[derive(Drop)]
+#[derive(Clone, Copy)]
 pub enum Cut {
     // the record begins here, and ends where the bytes begin that are not used yet
     Whole(usize, Rest),

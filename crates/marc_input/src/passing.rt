@@ -13,7 +13,7 @@ const LINE_FEED: u8 = 10;
 
 const CARRIAGE_RETURN: u8 = 13;
 
-#[derive(Drop)]
+#[derive(Clone, Copy)]
 pub enum Passed {
     // the bytes that are not used yet
     To(Rest),

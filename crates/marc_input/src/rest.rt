@@ -5,7 +5,7 @@ ghost use Rattle.marc_input.specs.Rests.{Held, FilledBy};
 use input::reading::read_until;
 
 // Where they stand in the buffer, and whether the input is over: then nothing more is read, even where more would come.
-#[derive(Drop)]
+#[derive(Clone, Copy)]
 pub struct Rest {
     pub at: usize,
     pub end: usize,

@@ -17,7 +17,7 @@ const SUBFIELD_MARK: u8 = 0x1f;
 const INDICATORS: usize = 2;
 
 // Some bytes of a list: where they begin, and the first behind them.
-#[derive(Drop)]
+#[derive(Clone, Copy)]
 pub enum Span {
     Of(usize, usize),
     Missing,

@@ -33,7 +33,7 @@ const FIELD_MARK: u8 = 0x1e;
 pub const RECORD_MARK: u8 = 0x1d;
 
 // What an entry tells of its field.
-#[derive(Drop)]
+#[derive(Clone, Copy)]
 enum Entry {
     // its fault is at this byte
     Bad(usize),
@@ -42,7 +42,7 @@ enum Entry {
 }
 
 // What all entries tell.
-#[derive(Drop)]
+#[derive(Clone, Copy)]
 enum Entries {
     // the first fault is at this byte
     Bad(usize),

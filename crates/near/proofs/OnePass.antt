@@ -3,7 +3,7 @@
 use mathlib.Core.Path.{◌≡◌, refl, sym as inv, ap, ap₂, ◌∙◌}
 use mathlib.Core.Logic.{inl, inr}
 use mathlib.Core.List.{List}
-use mathlib.Core.Bool.{Bool, true, false, ◌&&◌, ◌||◌, and_false, false≢true}
+use mathlib.Core.Bool.{Bool, true, false, ◌&&◌, ◌||◌, and-false, false≢true}
 use Prim.Native.Nat.{ℕ, ◌≤◌, ◌<◌}
 use native.Mathlib.Decide.{dec_lt, ℕ_discrete}
 use native.Mathlib.Omega.{arith}
@@ -85,7 +85,7 @@ module _ (file : List ℕ) (ok : SoundFile file) where
 
         by_none : some (pair_count_lem file) (brings file cut h k) ≡ false → (h ≡ k → ⊥) → (b : Bool) → leb cut (T.deg k h) ≡ b → (ltb k T.size && leb cut (T.deg k h)) ≡ false
         by_none e n true r = absurd (apart h k n e r)
-        by_none e n false r = rw r (and_false (ltb k T.size))
+        by_none e n false r = rw r (and-false (ltb k T.size))
 
         go : (b : Bool) → some (pair_count_lem file) (brings file cut h k) ≡ b → Dec (h ≡ k) → Dec (k < T.size) → Told b
         go true e d u =
@@ -97,14 +97,14 @@ module _ (file : List ℕ) (ok : SoundFile file) where
             let degree = ap (T.deg k) d ∙ (sound file ok).lawful.itself k u in
             rw (lt-ltb h T.size (omega arith), eq-eqb k h (inv d), lt-ltb k T.size u, le-leb cut (T.deg k h) (omega arith))
         go false e (yes d) (no u) = rw (le-ltb h T.size (omega arith), le-ltb k T.size (omega arith))
-        go false e (no d) u = rw (ne_eqb k h (λ q. d (inv q)), and_false (ltb h T.size)) (inv (by_none e d _ refl))
+        go false e (no d) u = rw (ne_eqb k h (λ q. d (inv q)), and-false (ltb h T.size)) (inv (by_none e d _ refl))
 
     -- near to a number is only a symbol, and only if the number is one too
     outside : (h k : ℕ) → T.size ≤ h → is_near T cut h k ≡ false
     outside h k past = go (leb cut (T.deg k h)) refl
       where
         go : (b : Bool) → leb cut (T.deg k h) ≡ b → is_near T cut h k ≡ false
-        go false e = rw e (and_false (ltb k T.size))
+        go false e = rw e (and-false (ltb k T.size))
         go true e =
             let reached = leb-true cut (T.deg k h) e in
             let inside = ((sound file ok).lawful.inside k h (omega arith)).1 in

@@ -11,7 +11,7 @@ use lines::line::Cursor;
 use refusal::Outcome;
 
 // What has come of text that was to be written.
-#[derive(Drop)]
+#[derive(Clone, Copy)]
 pub enum Pending {
     // so many bytes were handed over, and so many stand in the buffer, from the front on
     Bytes(usize, usize),

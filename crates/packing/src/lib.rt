@@ -22,7 +22,7 @@ use variable::{Found, pack_variable};
 // How many numbers a variable's span has.
 const SPAN: usize = 4;
 
-#[derive(Drop)]
+#[derive(Clone, Copy)]
 pub struct Search {
     // how many positions are packed
     pub packed: usize,

@@ -2,7 +2,7 @@
 -- the subterms is the least of its degrees with those symbols. A subterm that has no such position leaves nothing near.
 use mathlib.Core.Path.{◌≡◌, refl, sym as inv, ap, ◌∙◌}
 use mathlib.Core.List.{List, [], ◌∷◌}
-use mathlib.Core.Bool.{Bool, true, false, ◌&&◌, ◌||◌, and_false, cond, or-false}
+use mathlib.Core.Bool.{Bool, true, false, ◌&&◌, ◌||◌, and-false, cond, or-false}
 use Prim.Native.Nat.{ℕ, zero, suc, ◌+◌, ◌≤◌, ◌<◌}
 use native.Mathlib.Decide.{dec_lt, ℕ_discrete}
 use native.Mathlib.Nat.{not-suc-le-zero}
@@ -169,7 +169,7 @@ module _ {T : Table} {cut : ℕ} {near heading : List ℕ} (known : NearOf T cut
 
     -- LAW: where a subterm ends before, no symbol is in the set
     pub set-none : (s : ℕ) → in_set T cut ts k s ≡ false
-    set-none s = rw (lt-leb cut (shared T ts k s) (omega (arith, nothing s, known.positive))) (and_false (ltb s T.size))
+    set-none s = rw (lt-leb cut (shared T ts k s) (omega (arith, nothing s, known.positive))) (and-false (ltb s T.size))
 
     pub lowest-none : lowest_at_lem T cut ts k ≡ 1000
     lowest-none = lowest-same T.size _ (λ s. 1000) (λ s l. rw (set-none s)) ∙ all_top T.size

@@ -8,7 +8,7 @@ ghost use Rattle.positions.specs.Looked.{LookedAt};
 use facing::notes::note_at;
 use sets::{SymbolSet, insert};
 
-#[derive(Drop)]
+#[derive(Clone, Copy)]
 pub struct Faced {
     // each symbol once, however many subterms have it there
     pub symbols: SymbolSet,

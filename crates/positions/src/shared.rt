@@ -10,7 +10,7 @@ use degrees::lesser;
 use near::{lowest_of, set_of};
 use sets::{SymbolSet, next_member};
 
-#[derive(Drop)]
+#[derive(Clone, Copy)]
 pub struct Shared {
     pub set: SymbolSet,
     // no symbol of the set has a lower degree with one that stands there

@@ -5,7 +5,7 @@ ghost use Rattle.std.specs.Prelude.{◌≡◌};
 ghost use Rattle.meaning.specs.Refusals.{number_of, place_of};
 ghost use Rattle.refusal.specs.Told.{told};
 
-#[derive(Drop)]
+#[derive(Clone, Copy)]
 pub enum Refusal {
     // the bytes are not laid out as a table
     Layout,
@@ -36,7 +36,7 @@ pub enum Refusal {
 }
 
 // What a match comes to.
-#[derive(Drop)]
+#[derive(Clone, Copy)]
 pub enum Outcome {
     // the lowest and the highest degree
     Match(u16, u16),

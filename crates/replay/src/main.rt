@@ -17,7 +17,7 @@ use shape::room::MOST_ROOM;
 // Twice as much as a question may have, so that bytes are moved seldom.
 const ROOM: usize = 131072;
 
-#[derive(Drop)]
+#[derive(Clone, Copy)]
 pub enum Turn {
     // the bytes that are not used yet, from the first number up to the second, and how many are still to be written
     Go(usize, usize, usize),

@@ -11,7 +11,7 @@ ghost use Rattle.sets.specs.Words.{NextBelow};
 
 // A set of symbols: the first word tells of the first symbols, from its lowest bit up, and each word goes on from the one before.
 #[repr(C)]
-#[derive(Drop)]
+#[derive(Clone, Copy)]
 pub struct SymbolSet {
     pub words: [u64; SymbolSet::WORDS],
 }

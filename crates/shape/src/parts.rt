@@ -6,7 +6,7 @@ ghost use Rattle.shape.specs.Shapes.{ShapedBy};
 
 use table::number::number_at;
 
-#[derive(Drop)]
+#[derive(Clone, Copy)]
 pub struct Header {
     pub cut: u16,
     // how many nodes the pattern and the heading have
@@ -14,7 +14,7 @@ pub struct Header {
     pub heading: u16,
 }
 
-#[derive(Drop)]
+#[derive(Clone, Copy)]
 pub enum Shape {
     Misshapen,
     Question(Header),

@@ -16,7 +16,7 @@ use refusal::Refusal;
 use table::number::number_at;
 use table::rules::{Place, allowed, high_arity, key, may_follow};
 
-#[derive(Drop)]
+#[derive(Clone, Copy)]
 pub enum Checked {
     Sound,
     Refused(Refusal),

@@ -10,7 +10,7 @@ use crate::number::number_at;
 
 // Two symbols, the lower first, and their degree.
 #[repr(C)]
-#[derive(Drop)]
+#[derive(Clone, Copy)]
 pub struct Pair {
     pub lower: u16,
     pub higher: u16,
@@ -32,7 +32,7 @@ pub fn pair_count(file: &[u8]) -> u16
 }
 
 // How many symbols and pairs a table has, read once for one who asks often.
-#[derive(Drop)]
+#[derive(Clone, Copy)]
 pub struct Counts {
     pub symbols: u16,
     pub pairs: u16,

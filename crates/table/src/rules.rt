@@ -12,7 +12,7 @@ pub const MOST_SYMBOLS: usize = SymbolSet::ROOM as usize;
 
 pub const MOST_PAIRS: usize = 8192;
 
-#[derive(Drop)]
+#[derive(Clone, Copy)]
 pub enum Place {
     At(usize),
     Nowhere,

@@ -12,25 +12,25 @@ use refusal::Refusal;
 use sound::{Checked, check};
 use table::read::{Pair, arity, pair_at, pair_count, symbol_count};
 
-#[derive(Drop)]
+#[derive(Clone, Copy)]
 pub enum TableAnswer {
     Table,
     Refused(Refusal),
 }
 
-#[derive(Drop)]
+#[derive(Clone, Copy)]
 pub enum DegreeAnswer {
     Degree(u16),
     Refused(Refusal),
 }
 
-#[derive(Drop)]
+#[derive(Clone, Copy)]
 pub enum ArityAnswer {
     Arity(u8),
     Refused(Refusal),
 }
 
-#[derive(Drop)]
+#[derive(Clone, Copy)]
 pub enum PairAnswer {
     Listed(Pair),
     Refused(Refusal),

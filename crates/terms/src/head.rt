@@ -8,7 +8,7 @@ use crate::kind::{Kind, kind_of};
 use table::read::{arity, symbol_count};
 
 // A node as the head of a term.
-#[derive(Drop)]
+#[derive(Clone, Copy)]
 pub enum Head {
     // so many arguments follow
     Takes(u8),

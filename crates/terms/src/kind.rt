@@ -5,7 +5,7 @@ ghost use Rattle.terms.specs.Kinds.{kind_of};
 
 use sets::SymbolSet;
 
-#[derive(Drop)]
+#[derive(Clone, Copy)]
 pub enum Kind {
     Symbol(u16),
     // by its number, from 0

@@ -8,7 +8,7 @@ ghost use Rattle.terms.specs.Levels.{StayOpen};
 
 use crate::head::{Head, head_of};
 
-#[derive(Drop)]
+#[derive(Clone, Copy)]
 pub enum Reading {
     // the list is a term
     Whole,

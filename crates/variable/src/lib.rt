@@ -21,7 +21,7 @@ use sets::SymbolSet;
 use table::read::counts_of;
 use wide::Degrees;
 
-#[derive(Drop)]
+#[derive(Clone, Copy)]
 pub struct Found {
     // some term may stand for the variable
     pub formed: bool,

@@ -32,7 +32,7 @@ pub const KEPT_ROWS: u16 = 32;
 // A table of no more symbols keeps none, so that its index need not be larger: its degrees are found without these rows.
 pub const SMALL_TABLE: u16 = 16;
 
-#[derive(Drop)]
+#[derive(Clone, Copy)]
 pub struct Degrees {
     pub lowest: u16,
     pub highest: u16,

@@ -15,11 +15,11 @@ use Rattle.writer.specs.Said.{said}
 use Rattle.writer.specs.declared.Writing.{Writing}
 use Rattle.writer.specs.declared.Writing.TheVariants.{Written, Refused}
 
-pub one-said : (r s : Writing) → said r ≡ said s → r ≡ s
-one-said (Written n) (Written n') e = ap Written (cc)
-one-said (Written n) (Refused why) e = absurd (gives_none why _ (sym e))
-one-said (Refused why) (Written n) e = absurd (gives_none why _ e)
-one-said (Refused why) (Refused other) e = ap Refused (one_refusal ℕ why other e)
+pub one_said : (r s : Writing) → said r ≡ said s → r ≡ s
+one_said (Written n) (Written n') e = ap Written (cc)
+one_said (Written n) (Refused why) e = absurd (gives_none why _ (sym e))
+one_said (Refused why) (Written n) e = absurd (gives_none why _ e)
+one_said (Refused why) (Refused other) e = ap Refused (one_refusal ℕ why other e)
 
 -- LAW: what was written is a table, which reads back to the same arities and pairs; all else stays
 pub read_back : (arities : List ℕ) (pairs : List Pair) (output : List ℕ) (r : Writing) (later : List ℕ)
@@ -28,9 +28,9 @@ read_back arities pairs output r later e f =
     subst (λ w. Writes arities pairs output w) (ap₂ (λ a l. record { answer = a; output = l }) (sym e) (sym f)) (round_trip.read_written arities pairs output)
 
 -- LAW: what was read from a table is written as the table's own bytes
-pub written-again : (table output : List ℕ) → Bytes table → SoundFile table → length table ≤ length output → (pairs : List Pair) → pairs ≡ pairs_in table
+pub written_again : (table output : List ℕ) → Bytes table → SoundFile table → length table ≤ length output → (pairs : List Pair) → pairs ≡ pairs_in table
     → (r : Writing) (later : List ℕ) → said r ≡ written (arities_in table) pairs output → later ≡ later_output (arities_in table) pairs output
     → (r ≡ Written (length table)) × (later ≡ table ++ drop (length table) output)
-written-again table output b s l pairs same r later e f =
+written_again table output b s l pairs same r later e f =
     let w = round_trip.written_read table output b s l in
-    (one-said r (Written (length table)) (e ∙ rw same w.taken), f ∙ rw same w.same-bytes)
+    (one_said r (Written (length table)) (e ∙ rw same w.taken), f ∙ rw same w.same_bytes)

@@ -17,7 +17,7 @@ use layout::{put_arities, put_header, put_numbers};
 use refusal::Refusal;
 use table::rules::{MOST_PAIRS, Place, allowed, high_arity};
 
-#[derive(Drop)]
+#[derive(Clone, Copy)]
 pub enum Writing {
     // how much was written
     Written(usize),
