@@ -20,7 +20,6 @@ pub loop-out-smaller : goal.loop-out-smaller
 loop-out-smaller c =
     let a = c.args in
     let loop = c.loop-out in
-    let line = c.line_end-1.given in
     let put = c.next_line in
     line_less a.outcome a.spans.now a.sets.now a.cursor a.out.now a.at loop.end loop.next loop.out put.result c.in-Text.line_end c.in-Text.after put.new.out loop.invariant put.ensures c.in-Text.is
 
@@ -28,7 +27,6 @@ pub loop-out-preserved : goal.loop-out-preserved
 loop-out-preserved c =
     let a = c.args in
     let loop = c.loop-out in
-    let line = c.line_end-1.given in
     let put = c.next_line in
     begun_line a.outcome a.spans.now a.sets.now a.cursor a.out.now a.at loop.end loop.next loop.out put.result c.in-Text.line_end c.in-Text.after put.new.out loop.invariant put.ensures c.in-Text.is put.auto.out
 

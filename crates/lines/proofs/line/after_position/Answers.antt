@@ -7,9 +7,6 @@ use Rattle.meaning.specs.Buffers.{position_count_lem}
 use Rattle.lines.specs.Lines.{after_position_lem}
 use Rattle.lines.proofs.line.after_position.Goals as goal
 
-pub overflow_add-k : goal.overflow_add-k
-overflow_add-k c = let v = c.args.v in omega (arith, c.shared_slice_known-1.given (span_width * v + 1))
-
 pub returns-then-k-position_count : goal.returns-then-k-position_count
 unfolding after_position_lem
 returns-then-k-position_count c =

@@ -5,5 +5,5 @@ use Rattle.lines.proofs.line.put_numbers.Goals as goal
 pub returns : goal.returns
 returns c =
     let from_two = put_then c.put_number-second_end.ensures.0 c.put_byte.ensures c.put_number-second_end.auto.out in
-    let from-space = put_then c.put_byte-second_at.ensures from_two c.put_byte-second_at.auto.out in
-    put_then c.put_number-first_end.ensures.0 from-space c.put_number-first_end.auto.out
+    let from_space = put_then c.put_byte-second_at.ensures from_two c.put_byte-second_at.auto.out in
+    put_then c.put_number-first_end.ensures.0 from_space c.put_number-first_end.auto.out
