@@ -1,6 +1,6 @@
 -- The rows of the leader, in their order; then what `check_fields` finds.
-use mathlib.Core.Path.{◌≡◌, sym, ◌∙◌}
-use mathlib.Core.Bool.{true}
+use mathlib.Core.Path.{◌≡◌, sym, ap, ◌∙◌}
+use mathlib.Core.Bool.{true, not}
 use Prim.Native.Nat.{◌-◌, ◌/◌}
 use native.Mathlib.Omega.{arith}
 use lib.ListN.{length}
@@ -20,10 +20,10 @@ size_is c =
     let v = c.five.ensures.0 in
     omega arith
 
-base-fine : (c : goal.After-five-base) → Directory c.args.bytes.now c.five-base.result ((c.five-base.result - 25) / 12)
-base-fine c =
+base_fine : (c : goal.After-five-base) → Directory c.args.bytes.now c.five-base.result ((c.five-base.result - 25) / 12)
+base_fine c =
     let r = c.args.bytes.now in
-    directory r c.five-base.result c.five-base.ensures.0 c.five-base.ensures.1 (c.fine_base.ensures ∙ c.if-not-fine_base.false)
+    directory r c.five-base.result c.five-base.ensures.0 c.five-base.ensures.1 (c.fine_base.ensures ∙ ap not c.if-not-fine_base.false)
 
 pub returns-then-n-lt-SHORTEST : goal.returns-then-n-lt-SHORTEST
 returns-then-n-lt-SHORTEST c = too_short c.args.bytes.now (omega arith)
@@ -42,21 +42,21 @@ returns-then-five-n c =
 pub returns-then-not-fine_base : goal.returns-then-not-fine_base
 returns-then-not-fine_base c =
     let r = c.args.bytes.now in
-    at_base r (omega arith) (is_number (goal.at.returns-then-not-fine_base c).Else-not-digits) (size_is (goal.at.returns-then-not-fine_base c).Else-five-n) (c.fine_base.ensures ∙ c.if-not-fine_base.true)
+    at_base r (omega arith) (is_number (goal.at.returns-then-not-fine_base c).Else-not-digits) (size_is (goal.at.returns-then-not-fine_base c).Else-five-n) (c.fine_base.ensures ∙ ap not c.if-not-fine_base.true)
 
 pub five-base-requires : goal.five-base-requires
-five-base-requires c = (omega arith, base_number c.args.bytes.now (c.fine_base.ensures ∙ c.if-not-fine_base.false))
+five-base-requires c = (omega arith, base_number c.args.bytes.now (c.fine_base.ensures ∙ ap not c.if-not-fine_base.false))
 
 pub overflow_sub-base : goal.overflow_sub-base
 overflow_sub-base c =
-    let d = base-fine (goal.at.overflow_sub-base c).After-five-base in
+    let d = base_fine (goal.at.overflow_sub-base c).After-five-base in
     omega (arith, d.size)
 
 pub check_fields-requires : goal.check_fields-requires
-check_fields-requires c = base-fine (goal.at.check_fields-requires c).After-five-base
+check_fields-requires c = base_fine (goal.at.check_fields-requires c).After-five-base
 
 pub returns : goal.returns
 returns c =
     let r = c.args.bytes.now in
-    let fine = c.fine_base.ensures ∙ c.if-not-fine_base.false in
+    let fine = c.fine_base.ensures ∙ ap not c.if-not-fine_base.false in
     c.check_fields.ensures ∙ behind_leader r (omega arith) (is_number (goal.at.returns c).Else-not-digits) (size_is (goal.at.returns c).Else-five-n) fine
