@@ -36,6 +36,10 @@ counts_within symbols p e =
     let i = inside_of 1 most_symbols symbols q.0 in
     record { some = i.0; few = i.1; few_pairs_lem = (inside_of 0 most_pairs p q.1).1 }
 
+-- the same of the row itself
+pub row_counted : (symbols p : ℕ) → row2 symbols p ≡ row 2 none → Counted symbols p
+row_counted symbols p e = counts_within symbols p (ap row_place e)
+
 -- ---- what an answer tells of the rows it was made by
 
 pub answered_none : (o : Option Refusal) (a n : ℕ) → gives n ≡ unless o a → o ≡ none

@@ -21,12 +21,12 @@ loop-j-init c = (omega arith, λ i l. absurd (not-suc-le-zero l))
 pub overflow_cast-lower : goal.overflow_cast-lower
 overflow_cast-lower c =
     let at = c.args.at in
-    omega (arith, c.shared_slice_known-1.given (at + 3 * (c.loop-j.j + 1)))
+    omega (arith, c.type_inv.numbers (at + 3 * (c.loop-j.j + 1)))
 
 pub overflow_cast-higher : goal.overflow_cast-higher
 overflow_cast-higher c =
     let at = c.args.at in
-    omega (arith, c.shared_slice_known-in-loop-j-1.given (at + 3 * (c.loop-j.j + 1) + 1))
+    omega (arith, c.type_inv.numbers (at + 3 * (c.loop-j.j + 1) + 1))
 
 pub bounds-arities-lower : goal.bounds-arities-lower
 bounds-arities-lower c =

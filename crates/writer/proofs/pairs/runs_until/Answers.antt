@@ -28,13 +28,13 @@ returns-then-not-alike c = (omega arith, c.loop-last.invariant.1)
 pub loop-last-preserved : goal.loop-last-preserved
 loop-last-preserved c =
     let a = c.args in
-    let known = c.shared_slice_known-2-1.given in
+    let known = c.type_inv.numbers in
     let head = c.loop-last in
     let ns = c.args.numbers.now in
     let ordered = c.in_order.ensures (c.if-not-in_order.false) in
     let alike = c.alike.ensures (c.if-not-alike.false) in (
       omega arith,
-      run_good a.arities.now (pairs_of ns) (short_pairs ns (λ j. (known j).fits)) head.new (numbers_from ns (3 * head.new)) (λ j l. pair_of_run ns head.new (3 * head.new) refl j) ordered alike head.invariant.1,
+      run_good a.arities.now (pairs_of ns) (short_pairs ns (λ j. (known j).fits)) head.last (numbers_from ns (3 * head.last)) (λ j l. pair_of_run ns head.last (3 * head.last) refl j) ordered alike head.invariant.1,
     )
 
 pub returns : goal.returns

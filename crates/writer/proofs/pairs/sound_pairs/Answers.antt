@@ -19,7 +19,7 @@ told : (c : goal.After-may_follow)
     c.may_follow.result ≡ not (bad_pair_lem a.arities.now (pairs_of a.numbers.now) c.loop-k.k)
 told c =
     let a = c.args in
-    let short = c.shared_slice_known-2-1.given in
+    let short = c.type_inv.numbers in
     let head = c.loop-k in
     rw (c.may_follow.ensures, head.invariant.2) (good_three a.arities.now a.numbers.now (λ j. (short j).fits) head.k)
 
