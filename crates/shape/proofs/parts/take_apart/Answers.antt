@@ -1,10 +1,9 @@
 -- A length that is too great or too small is refused outright; else what the comparisons say.
 use borrow.Author.Rules.{rules}
 use borrow.Author.Tests.{lt-ltb, le-ltb}
-use mathlib.Core.Path.{ap, ◌∙◌}
 use native.Mathlib.Omega.{arith}
 use lib.ListN.{length}
-use Rattle.meaning.specs.Refusals.{row, at0, row12}
+use Rattle.meaning.specs.Refusals.{row12}
 use Rattle.meaning.specs.Program.{cut_in}
 use Rattle.shape.proofs.parts.take_apart.Goals as goal
 
@@ -21,13 +20,13 @@ returns-then-input-lt14 c =
     rw (le-ltb 65535 (length f) (omega arith), lt-ltb (length f) 14 (omega arith))
 
 pub returns-then-not-well_placed : goal.returns-then-not-well_placed
-returns-then-not-well_placed c = c.well_placed.ensures ∙ ap (λ b. row 12 (at0 b)) c.if-not-well_placed.true
+returns-then-not-well_placed c = c.if-not-well_placed.ensures
 
 pub returns : goal.returns
 unfolding cut_in
 returns c =
     record {
-      accepted = c.well_placed.ensures ∙ ap (λ b. row 12 (at0 b)) c.if-not-well_placed.false;
+      accepted = c.if-not-well_placed.ensures;
       cut_is = c.number_at.ensures;
       pattern_is = search rules;
       heading_is = search rules;

@@ -11,7 +11,6 @@ use Rattle.meaning.specs.File.{number}
 use Rattle.meaning.specs.Refusals.{row, at0, row12}
 use Rattle.table.proofs.Pairs.{number_small}
 use Rattle.shape.proofs.parts.well_placed.Goals as goal
-use Rattle.shape.proofs.parts.well_placed.Goals.{Start}
 
 above : (a b c d : ℕ) → c ≡ a → d ≡ b → ltb c d ≡ not (leb b a)
 above a b c d p q = go (dec_lt c d)
@@ -20,9 +19,6 @@ above a b c d p q = go (dec_lt c d)
     go (yes l) = rw (lt-ltb c d l, lt-leb b a (omega arith))
     go (no l) = rw (le-ltb c d (omega arith), le-leb b a (omega arith))
 
-small : (c : goal.Start) (i : ℕ) → number c.args.input.now i < 65536
-small TODO-context-Start i = number_small c.args.input.now (λ j. (c.shared_slice_known-1.given j).fits) i
-
 pub returns-then-number_at-ne14 : goal.returns-then-number_at-ne14
 unfolding row12
 returns-then-number_at-ne14 c =
@@ -30,10 +26,10 @@ returns-then-number_at-ne14 c =
     rw (le-ltb 65535 (length f) (omega arith), le-ltb (length f) 14 (omega arith), ne_eqb (number f 6) 14 (λ e. omega arith))
 
 pub overflow_mul-heading_at : goal.overflow_mul-heading_at
-overflow_mul-heading_at c = omega (arith, small (goal.at.overflow_mul-heading_at c).Start 2)
+overflow_mul-heading_at c = omega (arith, number_small _ (λ j. (c.type_inv.input j).fits) 2)
 
 pub overflow_add-heading_at : goal.overflow_add-heading_at
-overflow_add-heading_at c = omega (arith, small (goal.at.overflow_add-heading_at c).Start 2)
+overflow_add-heading_at c = omega (arith, number_small _ (λ j. (c.type_inv.input j).fits) 2)
 
 pub returns-then-number_at-heading_at : goal.returns-then-number_at-heading_at
 unfolding row12
@@ -42,10 +38,10 @@ returns-then-number_at-heading_at c =
     rw (le-ltb 65535 (length f) (omega arith), le-ltb (length f) 14 (omega arith), eq-eqb (number f 6) 14 (omega arith), ne_eqb (number f 8) (14 + 2 * number f 2) (λ e. omega arith))
 
 pub overflow_mul-table_at : goal.overflow_mul-table_at
-overflow_mul-table_at c = omega (arith, small (goal.at.overflow_mul-table_at c).Start 4)
+overflow_mul-table_at c = omega (arith, number_small _ (λ j. (c.type_inv.input j).fits) 4)
 
 pub overflow_add-table_at : goal.overflow_add-table_at
-overflow_add-table_at c = omega (arith, small (goal.at.overflow_add-table_at c).Start 2, small (goal.at.overflow_add-table_at c).Start 4)
+overflow_add-table_at c = omega (arith, number_small _ (λ j. (c.type_inv.input j).fits) 2, number_small _ (λ j. (c.type_inv.input j).fits) 4)
 
 pub returns-then-number_at-table_at : goal.returns-then-number_at-table_at
 unfolding row12
