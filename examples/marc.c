@@ -4,7 +4,7 @@
  *
  * From the top of the repository, on x86-64 (on Arm as examples/listing.c says):
  *
- *     rt staticlib capi
+ *     tools/library
  *     cc -std=c11 -Wall -Wextra -Iinclude examples/marc.c target/staticlib/libcapi.a -o target/marc
  *     leader='00082nz  a2200037n  4500' entry=100004400000
  *     printf '%s%s\036%s\037%s\037%s\036\035' "$leader" "$entry" '1 ' 'aGoethe, Johann Wolfgang von,' 'd1749-1832' | target/marc

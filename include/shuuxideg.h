@@ -1,6 +1,6 @@
 /*
  * Shuuxideg: which headings a pattern matches within a cut, and with which symbols. For C11 and C++ on x86-64 Linux; link libcapi.a, which
- * `rt staticlib capi` writes.
+ * `tools/library` writes.
  *
  * WHAT THE CALLS ARE ABOUT
  *

@@ -1,4 +1,4 @@
-//! Links the proved library, `libcapi.a`: from the folder that SHX_LIB names, else from where `rt staticlib capi` writes it.
+//! Links the proved library, `libcapi.a`: from the folder that SHX_LIB names, else from where `tools/library` writes it.
 
 use std::env;
 use std::path::PathBuf;
