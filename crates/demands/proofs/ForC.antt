@@ -217,7 +217,7 @@ module _ (held : ℕ) where
             let r = heading_call bytes (known_in text ends numbers) heading absent nodes in record { code = wide_coded r.answer; nodes = r.output };
       }
 
-  -- THEOREM: so what `c-users-have` supposes can be met
+  -- THEOREM: so what `c_users_have` supposes can be met
   pub c_kept : CKept some_c_calls
   unfolding some_c_calls
   c_kept =

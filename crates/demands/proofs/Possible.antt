@@ -168,7 +168,7 @@ some_calls =
           let ks = known_in text ends numbers in record { headed = (record_met bytes ks heading absent nodes).0; nodes = later_nodes bytes ks heading absent nodes };
     }
 
--- THEOREM: so what `users-have` supposes can be met
+-- THEOREM: so what `users_have` supposes can be met
 pub kept : Kept some_calls
 unfolding some_calls
 kept =

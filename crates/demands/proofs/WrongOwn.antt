@@ -92,11 +92,11 @@ module _ (P : Program) (f : Further P) (low₀ high₀ low₁ high₁ : ℕ) (w 
 
 -- ---- wrong programs
 
--- THEOREM: the pattern's symbols mixed in: it fails where the highest is spoken of (`VariableDegrees.own-highest`)
+-- THEOREM: the pattern's symbols mixed in: it fails where the highest is spoken of (`VariableDegrees.own_highest_lem-is`)
 pub mixed_in_fails : (P : Program) → given P ≡ gave 600 600 600 600 → Further P → ⊥
 mixed_in_fails P w f = omega (arith, own_highest_lem-is P f 600 600 600 600 w)
 
--- THEOREM: taken over all variables: it fails where the lowest is spoken of (`VariableDegrees.own-lowest`)
+-- THEOREM: taken over all variables: it fails where the lowest is spoken of (`VariableDegrees.own_lowest_lem-is`)
 pub over_all_fails : (P : Program) → given P ≡ gave 700 1000 700 1000 → Further P → ⊥
 over_all_fails P w f = omega (arith, own_lowest_lem-is P f 700 1000 700 1000 w)
 

@@ -99,7 +99,7 @@ behind (suc (suc v)) m = omega (arith, m.1, none-at (span_width * suc (suc v)) (
     none-at : (i j : ℕ) → i ≡ length front + j → get_or overlap.spans i 0 ≡ 0
     none-at i j e = ap (λ i. get_or overlap.spans i 0) e ∙ get_or-append-add front (zeros 120) j 0 ∙ get_or_zeros 120 j
 
--- THEOREM: and where all other words are (`Leaves.other-sets`)
+-- THEOREM: and where all other words are (`Leaves.other_sets`)
 pub rubbish_fails : (P : Program) → given P ≡ overlap → Demand1 P → ⊥
 rubbish_fails P w d =
     let l = d.match_leaves T pattern heading 500 no_spans (no_sets 3) in

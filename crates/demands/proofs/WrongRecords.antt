@@ -40,7 +40,7 @@ pub no_dates_fails : (P : Program)
     → Further P → ⊥
 no_dates_fails P w f = let a = answered P f in omega (arith, w bytes text ends numbers 0 4 (zeros 3) a.0, ap (λ l. get_or l 2 0) a.1)
 
--- ---- refusals (`Demand1.marc-heading`)
+-- ---- refusals (`Demand1.marc_heading_lem`)
 
 -- THEOREM: dates that are not listed are taken for absent ones: they are told by 22, at 1
 pub unlisted_dates_fail : (P : Program) → (given P (1 ∷ 2 ∷ []) numbers).answer ≡ gives aye → Demand1 P → ⊥
@@ -65,7 +65,7 @@ record_first_fails P w d =
     let e = inv q ∙ of_refusal _ _ (d.marc_heading_lem [] [] (0 ∷ 0 ∷ []) numbers 0 4 (zeros 3)) 17 0 w in
     omega (arith, ap number_of (some-injective (refusal 19 1) (refusal 17 0) e))
 
--- ---- what a refusal leaves (`Demand1.heading-leaves`)
+-- ---- what a refusal leaves (`Demand1.heading_leaves`)
 
 -- THEOREM: the heading symbol is written in any case
 pub writes_first_fails : (P : Program)

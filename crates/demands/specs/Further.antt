@@ -73,7 +73,7 @@ pub record Further (P : Program) : Type 0 where
       → (p : Pattern) → WritesPattern (table_in table) pattern p → (h : Term) → WritesTerm (table_in table) heading h
       → MatchSays (table_in table) cut p h pattern (P.match table pattern heading cut spans sets)
   -- the match at cut 1000. The first sentence names no match: it says what it means that the program accepts a table, and would not hold of one that accepts
-  -- a file in which two different symbols have degree 1000. (`made-richer` below too says what that means.)
+  -- a file in which two different symbols have degree 1000. (`made_richer` below too says what that means.)
   pub matchers_make_it : (table : List ℕ) → P.is_table_lem table ≡ gives aye → MatchersMakeIt table
   pub top_cut : (table pattern heading spans sets : List ℕ) → Accepted table pattern heading 1000 spans sets
       → (p : Pattern) → WritesPattern (table_in table) pattern p → (h : Term) → WritesTerm (table_in table) heading h

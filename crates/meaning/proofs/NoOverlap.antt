@@ -1,5 +1,5 @@
 -- Why the heading has room for what is packed. Where nothing clashes, what faces the pattern's nodes is the heading, one behind the other
--- (`taken-all` of the theory); and each variable is counted once, by the first subterm that it faces.
+-- (`taken_all` of the theory); and each variable is counted once, by the first subterm that it faces.
 use mathlib.Core.Path.{◌≡◌, refl, sym as inv, ap, ap₂}
 use mathlib.Core.List.{List, [], ◌∷◌}
 use mathlib.Core.Bool.{Bool, true, false, cond}
