@@ -20,7 +20,7 @@ use Rattle.meaning.proofs.Back.{reads_back}
 use Rattle.meaning.proofs.RoundTrip.{round_trip}
 use Rattle.meaning.proofs.Faults.{heading_faults, match_faults}
 use Rattle.meaning.proofs.Saved.{widens}
-use Rattle.meaning.proofs.AsToday.{as_today}
+use Rattle.meaning.proofs.Widened.{as_today}
 use Rattle.meaning.proofs.Matched.{Ready, ready, demand2 as of_match}
 use Rattle.meaning.proofs.Reasons.{reasons}
 use Rattle.meaning.proofs.Sentences.{sentences}

@@ -3,33 +3,25 @@
 use mathlib.Core.Path.{◌≡◌, refl, sym as inv, ap, ap₂, ◌∙◌}
 use mathlib.Core.List.{List, [], ◌∷◌, ◌++◌, append-nil, append_assoc}
 use mathlib.Core.Bool.{Bool, false}
-use Prim.Native.Nat.{ℕ, zero, suc, ◌+◌, ◌-◌, ◌*◌, ◌/◌, ◌%◌, ◌≤◌}
+use Prim.Native.Nat.{ℕ, zero, suc, ◌+◌, ◌-◌, ◌*◌, ◌/◌, ◌≤◌}
 use native.Mathlib.Omega.{arith}
-use lib.ListN.{length, take, drop, length-append, length-replicate, replicate-append-replicate}
+use lib.ListN.{length, take, drop, length-append, replicate-append-replicate}
 use lib.Seq.{drop-append-add, take_at}
-use borrow.Author.Tests.{le-ltb, eq-eqb}
+use borrow.Author.Tests.{le-ltb}
 use Rattle.theory.specs.Tree.{Term}
 use Rattle.theory.specs.Table.{Table}
 use Rattle.theory.specs.Least.{All}
-use Rattle.theory.specs.Faces.{Face, facing}
+use Rattle.theory.specs.Faces.{Face}
 use Rattle.theory.specs.Match.{in_set}
-use Rattle.theory.proofs.Lemmas.{all_append}
 use Rattle.meaning.specs.Limits.{word_bits, set_words_lem}
-use Rattle.meaning.specs.File.{table_in}
-use Rattle.meaning.specs.Refusals.{first, row8-output}
-use Rattle.meaning.specs.Packing.{through, order, count_of, bits, words_from, sets_of, all_words_by, all_words_lem, packed_count, packed_sets}
-use Rattle.meaning.specs.Calls.{gives, Degrees, zeros, faces_in, matched, later_sets}
-use Rattle.meaning.specs.Saved.{saved_words, saved_room, widened_set, widened, row8-words, widen_rows, later_words, left_then}
-use Rattle.meaning.proofs.Bits.{length-words_by, length-words}
-use Rattle.meaning.proofs.Packing.{one}
-use Rattle.meaning.proofs.Matched.{sets_are}
-use Rattle.meaning.proofs.Spans.{answered_none}
-use Rattle.meaning.proofs.Lengths.{length_sets, rooms}
+use Rattle.meaning.specs.Packing.{through, bits, words_from, all_words_by, all_words_lem}
+use Rattle.meaning.specs.Calls.{zeros}
+use Rattle.meaning.specs.Saved.{saved_words, saved_room, widened_set, widened}
 
 -- ---- one set
 
 -- no symbol of the set had no room
-abbrev Small : (ℕ → Bool) → Type 0
+abbrev pub Small : (ℕ → Bool) → Type 0
 Small set = (s : ℕ) → saved_room ≤ s → set s ≡ false
 
 module _ (set : ℕ → Bool) where
@@ -91,7 +83,7 @@ widened-zeros (suc n) =
     ∙ replicate-append-replicate set_words_lem (set_words_lem * n) 0
     ∙ ap zeros j
 
-widened_sets : (sets : List (ℕ → Bool)) → All Small sets → (n : ℕ) → widened (all_words_by saved_words sets ++ zeros (saved_words * n)) ≡ all_words_lem sets ++ zeros (set_words_lem * n)
+pub widened_sets : (sets : List (ℕ → Bool)) → All Small sets → (n : ℕ) → widened (all_words_by saved_words sets ++ zeros (saved_words * n)) ≡ all_words_lem sets ++ zeros (set_words_lem * n)
 widened_sets [] a n = widened-zeros n
 widened_sets (set ∷ sets) a n =
     ap widened (append_assoc (words_from set 0 saved_words) (all_words_by saved_words sets) (zeros (saved_words * n)))
@@ -102,51 +94,5 @@ widened_sets (set ∷ sets) a n =
 -- ---- the sets of a match
 
 module _ (T : Table) (small : T.size ≤ saved_room) (cut : ℕ) (fs : List Face) where
-  set_small : (ts : List Term) (k : ℕ) → Small (in_set T cut ts k)
+  pub set_small : (ts : List Term) (k : ℕ) → Small (in_set T cut ts k)
   set_small ts k s l = rw (le-ltb s T.size (omega arith))
-
-  through_small : (v n : ℕ) → All Small (through n (one T cut fs v))
-  through_small v zero = tt
-  through_small v (suc n) = all_append Small (through n (one T cut fs v)) (one T cut fs v n) (through_small v n) (set_small (facing v fs) n, tt)
-
-  sets_small : (vs : List ℕ) → All Small (sets_of T cut fs vs)
-  sets_small [] = tt
-  sets_small (v ∷ vs) = all_append Small (through (count_of fs v) (one T cut fs v)) (sets_of T cut fs vs) (through_small v (count_of fs v)) (sets_small vs)
-
--- LAW: what a match left then, widened, is what it packs today, and zeros behind it
-left_widened : (T : Table) → T.size ≤ saved_room → (cut : ℕ) (fs : List Face) (n : ℕ) → packed_count fs ≤ n
-    → (length (left_then T cut fs n) ≡ saved_words * n) × (widened (left_then T cut fs n) ≡ packed_sets T cut fs ++ zeros (set_words_lem * n - length (packed_sets T cut fs)))
-unfolding left_then packed_sets packed_count
-left_widened T small cut fs n few =
-    let all = sets_of T cut fs (order fs) in
-    let filled = all_words_by saved_words all in
-    let then : saved_words * n - length filled ≡ saved_words * (n - length all) = omega (arith, length-words_by saved_words (λ set. refl) all) in
-    let now : set_words_lem * (n - length all) ≡ set_words_lem * n - length (all_words_lem all) = omega (arith, length-words all) in (
-      omega (
-        arith,
-        length-append filled (zeros (saved_words * n - length filled)),
-        length-replicate {A = ℕ} (saved_words * n - length filled) 0,
-        length-words_by saved_words (λ set. refl) all,
-        length_sets T cut fs (order fs),
-      ),
-      ap (λ k. widened (filled ++ zeros k)) then ∙ widened_sets all (sets_small T small cut fs (order fs)) (n - length all) ∙ ap (λ k. all_words_lem all ++ zeros k) now,
-    )
-
-module _ (table pattern heading : List ℕ) (cut : ℕ) (spans sets output : List ℕ) where
-  -- THEOREM: a saved answer, converted, is the answer of today
-  pub as_today : (table_in table).size ≤ saved_room → (d : Degrees) → matched table pattern heading cut spans sets ≡ gives d
-      → (n : ℕ) → length sets ≡ set_words_lem * n → length sets ≤ length output
-      → later_words (left_then (table_in table) cut (faces_in table pattern heading) n) output ≡ later_sets table pattern heading cut spans sets ++ drop (length sets) output
-  unfolding later_words widen_rows row8-words row8-output faces_in
-  as_today small d e n room long =
-      let T = table_in table in
-      let fs = faces_in table pattern heading in
-      let q = answered_none table pattern heading cut spans sets d e in
-      let few : packed_count fs ≤ n = omega (arith, (rooms table pattern heading cut spans sets q).1) in
-      let l = left_widened T small cut fs n few in
-      let words = left_then T cut fs n in
-      let whole : length words % saved_words ≡ 0 = omega (arith, l.0) in
-      let wide : 2 * length words ≡ length sets = omega (arith, l.0) in
-      rw (eq-eqb (length words % saved_words) 0 whole, le-ltb (length output) (2 * length words) (omega arith))
-      (ap₂ (λ front i. front ++ drop i output) (l.1 ∙ ap (λ k. packed_sets T cut fs ++ zeros (k - length (packed_sets T cut fs))) (inv room)) wide
-      ∙ ap (λ front. front ++ drop (length sets) output) (inv (sets_are table pattern heading cut spans sets q)))

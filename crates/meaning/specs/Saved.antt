@@ -1,6 +1,6 @@
 -- Answers that were saved when a set had four words. The converter makes of each set one of today: its words, and zeros in those that are new. Spans and
 -- degrees stay as they are, so that it does not see them. What it answers and leaves in lent memory, and what is said of that; the proofs are in
--- proofs/Saved and proofs/AsToday.
+-- proofs/Saved, proofs/AsToday and proofs/Widened.
 use Rattle.std.specs.Prelude.{◌≡◌, ◌↔◌, List, [], ◌∷◌, ◌++◌, true, false, not, ℕ, ◌+◌, ◌-◌, ◌*◌, ◌/◌, ◌%◌, ◌≤◌, ◌<◌, eqb, length, get_or, take, drop}
 use Rattle.std.proofs.Math.Option.{Option, none, some as just}
 use Rattle.theory.specs.Tree.{Term, enc}
