@@ -2,7 +2,7 @@
 -- and no other tag.
 use mathlib.Core.Path.{◌≡◌, sym as inv, ap, ◌∙◌}
 use mathlib.Core.List.{List}
-use Prim.Native.Nat.{ℕ, suc, ◌+◌, ◌*◌, ◌%◌, ◌≤◌, ◌<◌}
+use Prim.Native.Nat.{ℕ, ◌+◌, ◌*◌, ◌%◌, ◌≤◌, ◌<◌}
 use native.Mathlib.Nat.{mul-le-mul_right, suc-mul}
 use native.Mathlib.Decide.{dec_lt, ℕ_discrete}
 use native.Mathlib.Omega.{arith}
@@ -11,7 +11,7 @@ use lib.ListN.{length, get_or, set, length-set}
 use lib.Seq.{get_or-set_same, get_or-set_other}
 use Rattle.meaning.specs.File.{table_in}
 use Rattle.meaning.specs.Refusals.{SoundFile}
-use Rattle.wide.specs.Index.{kept_rows, small_table, tags_at, row_at, index_room, Index, Chained, DegreesFrom, Kept}
+use Rattle.wide.specs.Index.{kept_rows, small_table, tags_at, row_at, index_room, Chained, DegreesFrom, Kept}
 use Rattle.wide.specs.Laid.{Copied, DegreesOf}
 use Rattle.wide.proofs.Chains.{rows_kept, linked_kept}
 
