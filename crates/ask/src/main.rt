@@ -14,25 +14,31 @@ use question::serving::serve;
 use shape::room::MOST_ROOM;
 
 // Says the answer to the question that was read.
-fn answer_read(input: &[u8], read: Unread, sets: &mut [u64], out: &mut [u8]) -> Pending
+fn answer_read(
+    rt: HostRuntime,
+    input: &[u8],
+    read: Unread,
+    sets: &mut [u64],
+    out: &mut [u8],
+) -> Pending
     requires at_le_end { (read.at ≤ read.end) × (read.end ≤ length input.now) }
     requires most_room_in_bounds { (most_room ≤ length sets.old) × (line_room ≤ length out.old) }
     ensures { Said out.old 0 (output (unread input.now read.at read.end)) result out.new }
 {
     let at = read.at;
     let end = read.end;
-    serve(&input[at..end], sets, out, 0)
+    serve(rt, &input[at..end], sets, out, 0)
 }
 
 // A question that is longer than 65,535 bytes is refused for its length, so one byte more is enough to read.
-fn main() {
+fn main(rt: HostRuntime) {
     let mut input = io::large_buffer();
-    let read = read_until(&mut input, 0, 0, 65536);
+    let read = read_until(rt, &mut input, 0, 0, 65536);
     let mut sets = [0u64; MOST_ROOM];
     let mut out = io::large_buffer();
-    match answer_read(&input, read, &mut sets, &mut out) {
+    match answer_read(rt, &input, read, &mut sets, &mut out) {
         Pending::Bytes(_, used) => {
-            write_out(&out, used);
+            write_out(rt, &out, used);
         }
         Pending::Failed => {}
     }

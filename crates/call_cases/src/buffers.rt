@@ -16,12 +16,15 @@ const SPANS: usize = 136;
 
 pub const SETS: usize = 1026 * SymbolSet::WORDS;
 
-pub fn ask_match(asked: Asked, table: &[u8], pattern: &[u16], heading: &[u16]) {
+pub fn ask_match(rt: HostRuntime, asked: Asked, table: &[u8], pattern: &[u16], heading: &[u16]) {
     let mut spans = [GUARD; SPANS];
     let mut sets = [GUARD as u64; SETS];
-    say_answer(lend(asked, table, pattern, heading, &mut spans, &mut sets));
-    say_spans(&spans);
-    say_runs(b" sets", &sets);
+    say_answer(
+        rt,
+        lend(asked, table, pattern, heading, &mut spans, &mut sets),
+    );
+    say_spans(rt, &spans);
+    say_runs(rt, b" sets", &sets);
 }
 
 // The call, with the front of each buffer.
@@ -45,20 +48,20 @@ fn lend(
     )
 }
 
-fn say_answer(answer: Outcome) {
+fn say_answer(rt: HostRuntime, answer: Outcome) {
     match answer {
         Outcome::Match(lowest, highest) => {
-            say::one(b" match ", lowest as u64);
-            say::one(b" ", highest as u64);
+            say::one(rt, b" match ", lowest as u64);
+            say::one(rt, b" ", highest as u64);
         }
-        Outcome::Refused(why) => say::refused(why),
+        Outcome::Refused(why) => say::refused(rt, why),
     }
 }
 
-fn say_spans(spans: &[u16]) {
+fn say_spans(rt: HostRuntime, spans: &[u16]) {
     let mut words = [0u64; SPANS];
     as_words(spans, &mut words);
-    say_runs(b" spans", &words);
+    say_runs(rt, b" spans", &words);
 }
 
 fn as_words(numbers: &[u16], words: &mut [u64]) {
@@ -68,12 +71,12 @@ fn as_words(numbers: &[u16], words: &mut [u64]) {
 }
 
 // A list by its runs of equal numbers.
-pub fn say_runs(what: &[u8], values: &[u64]) {
-    say::text(what);
+pub fn say_runs(rt: HostRuntime, what: &[u8], values: &[u64]) {
+    say::text(rt, what);
     let mut first = 0;
     for i in 0..values.len() {
         if ends_run(values, i) {
-            say_run(first, i, values[i]);
+            say_run(rt, first, i, values[i]);
             first = i + 1;
         }
     }
@@ -90,13 +93,13 @@ fn ends_run(values: &[u64], i: usize) -> bool
 }
 
 // What stands at the indexes from first to last. Zeros are left out.
-fn say_run(first: usize, last: usize, value: u64) {
+fn say_run(rt: HostRuntime, first: usize, last: usize, value: u64) {
     if value == 0 {
         return;
     }
-    say::one(b" ", first as u64);
+    say::one(rt, b" ", first as u64);
     if first != last {
-        say::one(b"-", last as u64);
+        say::one(rt, b"-", last as u64);
     }
-    say::one(b":", value);
+    say::one(rt, b":", value);
 }

@@ -4,6 +4,7 @@
 ghost use Rattle.std.specs.Prelude.{◌≤◌};
 ghost use Rattle.io.specs.Counts.{IsPrefixLen};
 
+use std::io::Read;
 use table::number::number_at;
 
 // Room for the bytes of a case, for each list, and for the known strings.
@@ -39,9 +40,9 @@ pub enum Next {
     End,
 }
 
-pub fn read_header() -> Next {
+pub fn read_header(rt: HostRuntime) -> Next {
     let mut numbers = [0u16; 9];
-    if read_numbers(&mut numbers, 9) < 9 {
+    if read_numbers(rt, &mut numbers, 9) < 9 {
         return Next::End;
     }
     let asked = Asked {
@@ -67,19 +68,40 @@ pub fn least(a: usize, b: usize) -> usize
 }
 
 // Reads so many bytes to the front of the buffer, fewer where it or the input ends; answers how many.
-pub fn read_bytes(buffer: &mut [u8], count: usize) -> usize
+pub fn read_bytes(rt: HostRuntime, buffer: &mut [u8], count: usize) -> usize
     ensures { IsPrefixLen result buffer.new }
 {
     let n = least(count, buffer.len());
-    io::read_full(0, &mut buffer[..n])
+    read_full(rt, &mut buffer[..n])
+}
+
+// Reads until the buffer is full, the input ends or a read fails; answers how many bytes were read.
+fn read_full(rt: HostRuntime, buffer: &mut [u8]) -> usize
+    ensures { IsPrefixLen result buffer.new }
+{
+    let mut done = 0;
+    while done < buffer.len() {
+        match rt.stdin().read(&mut buffer[done..]) {
+            Ok(more) => {
+                if more == 0 {
+                    return done;
+                }
+                done += more;
+            }
+            Err(_) => {
+                return done;
+            }
+        }
+    }
+    done
 }
 
 // Reads so many numbers to the front of the list, fewer where it or the input ends; answers how many.
-pub fn read_numbers(list: &mut [u16], count: u16) -> usize
+pub fn read_numbers(rt: HostRuntime, list: &mut [u16], count: u16) -> usize
     ensures { IsPrefixLen result list.new }
 {
     let mut bytes = io::large_buffer();
-    let n = read_bytes(&mut bytes, 2 * count as usize);
+    let n = read_bytes(rt, &mut bytes, 2 * count as usize);
     numbers_of(&bytes[..n], list)
 }
 

@@ -13,21 +13,21 @@ mod writes;
 
 use input::{BYTES, Header, LONGEST, Next};
 
-fn answer(header: Header) {
+fn answer(rt: HostRuntime, header: Header) {
     let mut bytes = [0u8; BYTES];
-    let n = input::read_bytes(&mut bytes, header.bytes as usize + header.more as usize);
+    let n = input::read_bytes(rt, &mut bytes, header.bytes as usize + header.more as usize);
     let mut first = [0u16; LONGEST];
-    let m = input::read_numbers(&mut first, header.first);
-    ask::ask(header, &bytes[..n], &first[..m]);
+    let m = input::read_numbers(rt, &mut first, header.first);
+    ask::ask(rt, header, &bytes[..n], &first[..m]);
 }
 
 // Answers the next case; says whether there was one.
-fn answer_next(case: u16) -> bool {
-    match input::read_header() {
+fn answer_next(rt: HostRuntime, case: u16) -> bool {
+    match input::read_header(rt) {
         Next::Case(header) => {
-            say::one(b"", case as u64);
-            answer(header);
-            say::text(b"\n");
+            say::one(rt, b"", case as u64);
+            answer(rt, header);
+            say::text(rt, b"\n");
             true
         }
         Next::End => false,
@@ -35,9 +35,9 @@ fn answer_next(case: u16) -> bool {
 }
 
 // Nothing says that the input ends, so the cases are counted.
-fn main() {
+fn main(rt: HostRuntime) {
     let mut case: u16 = 0;
-    while case < 65535 && answer_next(case) {
+    while case < 65535 && answer_next(rt, case) {
         case += 1;
     }
 }

@@ -10,21 +10,31 @@ use exchange::{Headed, read_heading};
 // More numbers than any case lends.
 const NODES: usize = 6;
 
-pub fn ask(header: Header, bytes: &[u8], first: &[u16]) {
+pub fn ask(rt: HostRuntime, header: Header, bytes: &[u8], first: &[u16]) {
     let mut ends = [0u32; LONGEST];
     let m = ends_of(first, &mut ends);
     let mut numbers = [0u16; LONGEST];
-    let n = input::read_numbers(&mut numbers, header.second);
-    ask_of(header.asked, header.third, bytes, &ends[..m], &numbers[..n]);
+    let n = input::read_numbers(rt, &mut numbers, header.second);
+    ask_of(
+        rt,
+        header.asked,
+        header.third,
+        bytes,
+        &ends[..m],
+        &numbers[..n],
+    );
 }
 
 // The strings themselves come last.
-fn ask_of(asked: Asked, count: u16, bytes: &[u8], ends: &[u32], numbers: &[u16]) {
+fn ask_of(rt: HostRuntime, asked: Asked, count: u16, bytes: &[u8], ends: &[u32], numbers: &[u16]) {
     let mut text = [0u8; TEXT];
-    let n = input::read_bytes(&mut text, count as usize);
+    let n = input::read_bytes(rt, &mut text, count as usize);
     let mut nodes = [GUARD; NODES];
-    say::headed(lend(asked, bytes, &text[..n], ends, numbers, &mut nodes));
-    say::part(b" output ", &nodes);
+    say::headed(
+        rt,
+        lend(asked, bytes, &text[..n], ends, numbers, &mut nodes),
+    );
+    say::part(rt, b" output ", &nodes);
 }
 
 // The call, with the front of the output.

@@ -8,12 +8,12 @@ use crate::say;
 use saved::widen;
 use writer::Writing;
 
-pub fn ask_widen(room: u16, numbers: &[u16]) {
+pub fn ask_widen(rt: HostRuntime, room: u16, numbers: &[u16]) {
     let mut words = [0u64; SETS];
     let n = words_of(numbers, &mut words);
     let mut output = [GUARD as u64; SETS];
-    say::written(lend(room, &words[..n], &mut output));
-    say_runs(b" output", &output);
+    say::written(rt, lend(room, &words[..n], &mut output));
+    say_runs(rt, b" output", &output);
 }
 
 // The call, with the front of the output.

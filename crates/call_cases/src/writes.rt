@@ -10,10 +10,10 @@ const OUTPUT: usize = 72;
 
 const SHOWN: usize = 36;
 
-pub fn ask_write(room: u16, arities: &[u8], pairs: &[u16]) {
+pub fn ask_write(rt: HostRuntime, room: u16, arities: &[u8], pairs: &[u16]) {
     let mut output = [7u8; OUTPUT];
-    say::written(lend(room, arities, pairs, &mut output));
-    show(&output);
+    say::written(rt, lend(room, arities, pairs, &mut output));
+    show(rt, &output);
 }
 
 // The call, with the front of the output.
@@ -22,8 +22,8 @@ fn lend(room: u16, arities: &[u8], pairs: &[u16], output: &mut [u8]) -> Writing 
     write_table(arities, pairs, &mut output[..n])
 }
 
-fn show(output: &[u8]) {
+fn show(rt: HostRuntime, output: &[u8]) {
     let mut shown = [0u16; SHOWN];
     let n = numbers_of(output, &mut shown);
-    say::part(b" output ", &shown[..n]);
+    say::part(rt, b" output ", &shown[..n]);
 }

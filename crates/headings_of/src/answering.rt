@@ -36,6 +36,7 @@ fn go(rest: Rest, pending: Pending) -> Turn
 
 // Says what there is to say of what comes next. A record that is too long has been passed over; what is said of it is what is said of no bytes.
 fn answer_next(
+    rt: HostRuntime,
     k: u64,
     cut: Cut,
     buffer: &[u8],
@@ -56,14 +57,14 @@ fn answer_next(
             let bytes = &buffer[start..end];
             go(
                 rest,
-                say_record(k, bytes, text, ends, numbers, given, out, used),
+                say_record(rt, k, bytes, text, ends, numbers, given, out, used),
             )
         }
         Cut::TooLong(rest) => {
             let none = &buffer[..0];
             go(
                 rest,
-                say_record(k, none, text, ends, numbers, given, out, used),
+                say_record(rt, k, none, text, ends, numbers, given, out, used),
             )
         }
         Cut::Ended => Turn::Stop(used),
@@ -73,6 +74,7 @@ fn answer_next(
 
 // One turn. Where no mark stands in the bytes that were read no whole record does, so that it has to wait for more: before, it writes what it has.
 fn take_turn(
+    rt: HostRuntime,
     k: u64,
     buffer: &mut [u8],
     rest: Rest,
@@ -88,10 +90,10 @@ fn take_turn(
     ensures { TurnBy given.heading given.absent (known_in text.now ends.now numbers.now) k buffer.old rest out.old used result buffer.new out.new }
 {
     let mark = find_mark(buffer, rest.at, rest.end);
-    match settle(out, used, must_write(mark, rest.end, used)) {
+    match settle(rt, out, used, must_write(mark, rest.end, used)) {
         Pending::Bytes(_, left) => {
-            let cut = next_record(buffer, rest);
-            answer_next(k, cut, buffer, text, ends, numbers, given, out, left)
+            let cut = next_record(rt, buffer, rest);
+            answer_next(rt, k, cut, buffer, text, ends, numbers, given, out, left)
         }
         Pending::Failed => Turn::Failed,
     }
@@ -99,6 +101,7 @@ fn take_turn(
 
 // Turn after turn, until the input is over.
 pub fn answer_all(
+    rt: HostRuntime,
     buffer: &mut [u8],
     text: &[u8],
     ends: &[u32],
@@ -121,7 +124,7 @@ pub fn answer_all(
     for k in 0..u64::MAX {
         match turn {
             Turn::Go(rest, used) => {
-                turn = take_turn(k, buffer, rest, text, ends, numbers, given, out, used);
+                turn = take_turn(rt, k, buffer, rest, text, ends, numbers, given, out, used);
             }
             Turn::Stop(_) => {
                 return turn;

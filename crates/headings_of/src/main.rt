@@ -21,6 +21,10 @@ use list_file::gathering::{Listing, gather_list};
 use list_file::reading::{Got, read_file};
 use output::pending::write_out;
 use rooms::{LIST_ROOM, list_bytes, list_ends, list_numbers, record_buffer};
+use std::fs::File;
+use std::io::{Error, ErrorKind, Result};
+use std::rt::Env;
+use telling::fail;
 
 #[derive(Clone, Copy)]
 pub enum Ending {
@@ -32,6 +36,7 @@ pub enum Ending {
 
 // By a list that was gathered: it is tested once.
 fn answer_listed(
+    rt: HostRuntime,
     text: &[u8],
     ends: &[u32],
     numbers: &[u16],
@@ -49,11 +54,12 @@ fn answer_listed(
         absent,
         checked,
     };
-    answer_all(buffer, text, ends, numbers, given, out)
+    answer_all(rt, buffer, text, ends, numbers, given, out)
 }
 
 // By the list in a file.
 fn answer_by(
+    rt: HostRuntime,
     file: &[u8],
     text: &mut [u8],
     ends: &mut [u32],
@@ -70,6 +76,7 @@ fn answer_by(
         Listing::Bad(line) => Ending::BadLine(line),
         Listing::Known(heading, absent, strings, bytes) => {
             let turn = answer_listed(
+                rt,
                 &text[..bytes],
                 &ends[..strings],
                 &numbers[..strings],
@@ -83,30 +90,25 @@ fn answer_by(
     }
 }
 
-fn say_bad_line(line: usize) {
-    io::write_all(
-        libc::STDERR_FILENO,
-        b"headings_of: the list has another shape at line ",
-    );
-    io::print_decimal(libc::STDERR_FILENO, line as u64);
-    io::write_all(libc::STDERR_FILENO, b"\n");
+fn say_bad_line(rt: HostRuntime, line: usize) {
+    let _ = eprintln!(rt; "headings_of: the list has another shape at line {line}");
 }
 
 // Writes what is still to be written.
-fn finish(turn: Turn, out: &[u8])
+fn finish(rt: HostRuntime, turn: Turn, out: &[u8])
     requires { Stands (length out.now) turn }
 {
     match turn {
         Turn::Go(_, _) => {}
         Turn::Stop(left) => {
-            write_out(out, left);
+            write_out(rt, out, left);
         }
         Turn::Failed => {}
     }
 }
 
 // By a list's file that was read whole.
-fn serve_list(file: &[u8])
+fn serve_list(rt: HostRuntime, file: &[u8])
     requires { length file.now < list_room }
 {
     let mut text = list_bytes();
@@ -115,6 +117,7 @@ fn serve_list(file: &[u8])
     let mut buffer = record_buffer();
     let mut out = io::large_buffer();
     match answer_by(
+        rt,
         file,
         &mut text,
         &mut ends,
@@ -122,38 +125,40 @@ fn serve_list(file: &[u8])
         &mut buffer,
         &mut out,
     ) {
-        Ending::BadLine(line) => say_bad_line(line),
-        Ending::Turns(turn) => finish(turn, &out),
+        Ending::BadLine(line) => say_bad_line(rt, line),
+        Ending::Turns(turn) => finish(rt, turn, &out),
     }
 }
 
 // Reads the list's file, which has this name.
-fn serve(fd: i32, path: &[u8]) {
+fn serve(rt: HostRuntime, from: &mut File, path: &[u8]) {
     let mut file = list_bytes();
-    match read_file(fd, &mut file) {
+    match read_file(from, &mut file) {
         Got::Bytes(size) => {
             if size < LIST_ROOM {
-                serve_list(&file[..size]);
+                serve_list(rt, &file[..size]);
                 return;
             }
-            io::write_all(
-                libc::STDERR_FILENO,
-                b"headings_of: the list has more than 1048575 bytes\n",
-            );
+            let _ = eprintln!(rt; "headings_of: the list has more than 1048575 bytes");
         }
-        Got::Failed => os::fail(path),
+        Got::Failed(why) => fail(rt, path, why),
     }
 }
 
-fn main() {
-    let mut name = io::buffer();
-    let n = os::arg(1, &mut name);
-    let path = &name[..n];
-    let fd = os::open_read(path);
-    if fd < 0 {
-        os::fail(path);
-        return;
+// Opens the file that has this name. The library takes names of UTF-8 alone.
+fn open_read(rt: HostRuntime, path: &[u8]) -> Result<File> {
+    match str::from_utf8(path) {
+        Ok(name) => File::open(&rt, name),
+        Err(_) => Err(Error::new(ErrorKind::InvalidFilename, "the name is not UTF-8")),
     }
-    serve(fd, path);
-    libc::close(fd);
+}
+
+fn main(rt: HostRuntime) {
+    let mut name = io::buffer();
+    let n = rt.arg(1, &mut name).unwrap_or(0);
+    let path = &name[..n];
+    match open_read(rt, path) {
+        Ok(mut from) => serve(rt, &mut from, path),
+        Err(why) => fail(rt, path, why),
+    }
 }

@@ -81,6 +81,7 @@ fn put_answer(
 
 // Says what there is to say of record k, behind what stands in the buffer.
 pub fn say_record(
+    rt: HostRuntime,
     k: u64,
     bytes: &[u8],
     text: &[u8],
@@ -94,7 +95,7 @@ pub fn say_record(
     requires used_in_bounds { (used ≤ length out.old) × (line_room ≤ length out.old) }
     ensures { Said out.old used (record_text given.heading given.absent (known_in text.now ends.now numbers.now) k bytes.now) result out.new }
 {
-    match make_room(out, used) {
+    match make_room(rt, out, used) {
         Pending::Bytes(written, at) => {
             let line_end = put_record_line(k, out, at);
             let end = put_answer(bytes, text, ends, numbers, given, out, line_end);

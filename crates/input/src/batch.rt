@@ -27,7 +27,7 @@ fn length_at(bytes: &[u8], at: usize) -> usize
 }
 
 // Passes over a question that is too long, of so many bytes.
-fn pass_over(buffer: &mut [u8], at: usize, end: usize, count: usize) -> Next
+fn pass_over(rt: HostRuntime, buffer: &mut [u8], at: usize, end: usize, count: usize) -> Next
     requires { (at ≤ end) × (end ≤ length buffer.old) × (65535 ≤ length buffer.old) × (65535 < count) }
     ensures { FoundBy (Follows count) buffer.old at end result buffer.new }
 {
@@ -36,7 +36,7 @@ fn pass_over(buffer: &mut [u8], at: usize, end: usize, count: usize) -> Next
     let mut left = count;
     while left > to - from {
         left -= to - from;
-        let unread = read_until(buffer, to, to, 1);
+        let unread = read_until(rt, buffer, to, to, 1);
         from = unread.at;
         to = unread.end;
         if from == to {
@@ -48,11 +48,11 @@ fn pass_over(buffer: &mut [u8], at: usize, end: usize, count: usize) -> Next
 }
 
 // A question of so many bytes that begins at `at`.
-fn whole_question(buffer: &mut [u8], at: usize, end: usize, count: usize) -> Next
+fn whole_question(rt: HostRuntime, buffer: &mut [u8], at: usize, end: usize, count: usize) -> Next
     requires { (at ≤ end) × (end ≤ length buffer.old) × (65535 ≤ length buffer.old) × (count ≤ 65535) }
     ensures { FoundBy (Follows count) buffer.old at end result buffer.new }
 {
-    let unread = read_until(buffer, at, end, count);
+    let unread = read_until(rt, buffer, at, end, count);
     if unread.end - unread.at < count {
         return Next::CutOff;
     }
@@ -61,11 +61,11 @@ fn whole_question(buffer: &mut [u8], at: usize, end: usize, count: usize) -> Nex
 }
 
 // What comes next in the batch. The bytes from `at` up to `end` are not used yet.
-pub fn next_question(buffer: &mut [u8], at: usize, end: usize) -> Next
+pub fn next_question(rt: HostRuntime, buffer: &mut [u8], at: usize, end: usize) -> Next
     requires { (at ≤ end) × (end ≤ length buffer.old) × (65535 ≤ length buffer.old) }
     ensures { FoundBy Comes buffer.old at end result buffer.new }
 {
-    let unread = read_until(buffer, at, end, 4);
+    let unread = read_until(rt, buffer, at, end, 4);
     let from = unread.at;
     let to = unread.end;
     if from == to {
@@ -76,8 +76,8 @@ pub fn next_question(buffer: &mut [u8], at: usize, end: usize) -> Next
     }
     let count = length_at(buffer, from);
     if count > 65535 {
-        pass_over(buffer, from + 4, to, count)
+        pass_over(rt, buffer, from + 4, to, count)
     } else {
-        whole_question(buffer, from + 4, to, count)
+        whole_question(rt, buffer, from + 4, to, count)
     }
 }

@@ -3,6 +3,9 @@ ghost use Rattle.std.specs.Prelude.{◌≡◌, ◌-◌, ◌≤◌, length, take}
 ghost use Rattle.meaning.specs.Over.{over};
 ghost use Rattle.input.specs.Unreads.{unread, ReadBy};
 
+use std::io::Read;
+use telling::fail;
+
 // Where the bytes stand that were read and are not used yet.
 #[derive(Clone, Copy)]
 pub struct Unread {
@@ -23,20 +26,28 @@ fn move_front(buffer: &mut [u8], at: usize, end: usize) -> usize
 }
 
 // One read to the buffer from `end` on; answers where the bytes end then. A read that fails is told, and ends the input.
-fn read_more(buffer: &mut [u8], end: usize) -> usize
+fn read_more(rt: HostRuntime, buffer: &mut [u8], end: usize) -> usize
     requires { end ≤ length buffer.old }
     ensures { (end ≤ result) × (result ≤ length buffer.old) × (take end buffer.new ≡ take end buffer.old) }
 {
     let room = &mut buffer[end..];
-    let got = libc::read(libc::STDIN_FILENO, room);
-    if got < 0 {
-        os::fail(b"standard input");
+    match rt.stdin().read(room) {
+        Ok(more) => end + more,
+        Err(why) => {
+            fail(rt, b"standard input", why);
+            end
+        }
     }
-    end + io::count(got, room)
 }
 
 // Reads until `wanted` bytes are not used yet, or the input ends. Before, they are those from `at` up to `end`.
-pub fn read_until(buffer: &mut [u8], at: usize, end: usize, wanted: usize) -> Unread
+pub fn read_until(
+    rt: HostRuntime,
+    buffer: &mut [u8],
+    at: usize,
+    end: usize,
+    wanted: usize,
+) -> Unread
     requires { (at ≤ end) × (end ≤ length buffer.old) × (wanted ≤ length buffer.old) }
     ensures { ReadBy buffer.old at end wanted result buffer.new }
 {
@@ -45,7 +56,7 @@ pub fn read_until(buffer: &mut [u8], at: usize, end: usize, wanted: usize) -> Un
     }
     let mut read = move_front(buffer, at, end);
     while read < wanted {
-        let more = read_more(buffer, read);
+        let more = read_more(rt, buffer, read);
         if more == read {
             return Unread { at: 0, end: read };
         }

@@ -5,4 +5,4 @@ use Rattle.list_file.specs.declared.reading.Got.TheVariants.{Bytes, Failed}
 
 abbrev pub GotBy : ℕ → Got → Type 0
 GotBy room (Bytes n) = n ≤ room
-GotBy room Failed = Unit {0}
+GotBy room (Failed why) = Unit {0}

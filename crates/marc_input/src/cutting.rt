@@ -48,7 +48,7 @@ fn said_length(buffer: &[u8], rest: Rest) -> usize
 }
 
 // Reads until a mark is there, or more bytes than a record may have, or the input is over.
-fn fill_to_mark(buffer: &mut [u8], rest: Rest) -> Rest
+fn fill_to_mark(rt: HostRuntime, buffer: &mut [u8], rest: Rest) -> Rest
     requires { Held buffer.old rest × (most_bytes < length buffer.old) }
     ensures { ToMarkBy buffer.old rest result buffer.new }
 {
@@ -56,18 +56,18 @@ fn fill_to_mark(buffer: &mut [u8], rest: Rest) -> Rest
     let mut mark = find_mark(buffer, now.at, now.end);
     while mark == now.end && !now.over && now.end - now.at <= MOST_BYTES {
         let seen = now.end - now.at;
-        now = fill(buffer, now, seen + 1);
+        now = fill(rt, buffer, now, seen + 1);
         mark = find_mark(buffer, now.at + seen, now.end);
     }
     now
 }
 
 // A record that is not as long as it says ends with the next mark, or with the input.
-fn cut_at_mark(buffer: &mut [u8], rest: Rest) -> Cut
+fn cut_at_mark(rt: HostRuntime, buffer: &mut [u8], rest: Rest) -> Cut
     requires { Held buffer.old rest × (rest.at < rest.end) × (most_bytes < length buffer.old) × NotAsSaid buffer.old rest }
     ensures { ComesBy coming_in buffer.old rest result buffer.new }
 {
-    let now = fill_to_mark(buffer, rest);
+    let now = fill_to_mark(rt, buffer, rest);
     let mark = find_mark(buffer, now.at, now.end);
     if mark < now.end {
         return Cut::Whole(
@@ -87,7 +87,7 @@ fn cut_at_mark(buffer: &mut [u8], rest: Rest) -> Cut
     if now.over {
         return Cut::Whole(now.at, used);
     }
-    match pass_record(buffer, used) {
+    match pass_record(rt, buffer, used) {
         Passed::To(left) => Cut::TooLong(left),
         Passed::Endless => Cut::Endless,
     }
@@ -106,12 +106,12 @@ fn ends_marked(buffer: &[u8], rest: Rest, count: usize) -> bool
 }
 
 // A record that says that it has so many bytes, if it is so.
-fn cut_as_said(buffer: &mut [u8], rest: Rest, count: usize) -> Cut
+fn cut_as_said(rt: HostRuntime, buffer: &mut [u8], rest: Rest, count: usize) -> Cut
     requires held { Held buffer.old rest × (rest.at < rest.end) × (most_bytes < length buffer.old) }
     requires le_count { (26 ≤ count) × (count ≤ most_bytes) × Says count (rest_in buffer.old rest) }
     ensures { ComesBy coming_in buffer.old rest result buffer.new }
 {
-    let now = fill(buffer, rest, count);
+    let now = fill(rt, buffer, rest, count);
     if ends_marked(buffer, now, count) {
         return Cut::Whole(
             now.at,
@@ -122,26 +122,26 @@ fn cut_as_said(buffer: &mut [u8], rest: Rest, count: usize) -> Cut
             },
         );
     }
-    cut_at_mark(buffer, now)
+    cut_at_mark(rt, buffer, now)
 }
 
 // What comes next.
-pub fn next_record(buffer: &mut [u8], rest: Rest) -> Cut
+pub fn next_record(rt: HostRuntime, buffer: &mut [u8], rest: Rest) -> Cut
     requires { Held buffer.old rest × (most_bytes < length buffer.old) }
     ensures { NextBy buffer.old rest result buffer.new }
 {
-    match pass_breaks(buffer, rest) {
+    match pass_breaks(rt, buffer, rest) {
         Passed::Endless => Cut::Endless,
         Passed::To(begun) => {
-            let now = fill(buffer, begun, LENGTH_DIGITS);
+            let now = fill(rt, buffer, begun, LENGTH_DIGITS);
             if now.at == now.end {
                 return Cut::Ended;
             }
             let count = said_length(buffer, now);
             if count == 0 {
-                return cut_at_mark(buffer, now);
+                return cut_at_mark(rt, buffer, now);
             }
-            cut_as_said(buffer, now, count)
+            cut_as_said(rt, buffer, now, count)
         }
     }
 }

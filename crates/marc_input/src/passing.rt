@@ -43,13 +43,13 @@ fn is_break(byte: u8) -> bool
 }
 
 // Passes over line ends.
-pub fn pass_breaks(buffer: &mut [u8], rest: Rest) -> Passed
+pub fn pass_breaks(rt: HostRuntime, buffer: &mut [u8], rest: Rest) -> Passed
     requires { Held buffer.old rest × (1 ≤ length buffer.old) }
     ensures { PassedBy behind_breaks buffer.old rest result buffer.new }
 {
     let mut now = rest;
     for _ in 0..u64::MAX {
-        now = fill(buffer, now, 1);
+        now = fill(rt, buffer, now, 1);
         let at = now.at;
         if at == now.end {
             return Passed::To(now);
@@ -63,13 +63,13 @@ pub fn pass_breaks(buffer: &mut [u8], rest: Rest) -> Passed
 }
 
 // Passes over what is left of a record, up to and with the next mark.
-pub fn pass_record(buffer: &mut [u8], rest: Rest) -> Passed
+pub fn pass_record(rt: HostRuntime, buffer: &mut [u8], rest: Rest) -> Passed
     requires { Held buffer.old rest × (1 ≤ length buffer.old) }
     ensures { PassedBy behind_mark buffer.old rest result buffer.new }
 {
     let mut now = rest;
     for _ in 0..u64::MAX {
-        now = fill(buffer, now, 1);
+        now = fill(rt, buffer, now, 1);
         if now.at == now.end {
             return Passed::To(now);
         }

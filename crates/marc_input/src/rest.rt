@@ -13,14 +13,14 @@ pub struct Rest {
 }
 
 // Reads until so many bytes are not used yet, or the input is over.
-pub fn fill(buffer: &mut [u8], rest: Rest, wanted: usize) -> Rest
+pub fn fill(rt: HostRuntime, buffer: &mut [u8], rest: Rest, wanted: usize) -> Rest
     requires { Held buffer.old rest × (wanted ≤ length buffer.old) }
     ensures { FilledBy buffer.old rest wanted result buffer.new }
 {
     if rest.over {
         return rest;
     }
-    let unread = read_until(buffer, rest.at, rest.end, wanted);
+    let unread = read_until(rt, buffer, rest.at, rest.end, wanted);
     let over = unread.end - unread.at < wanted;
     Rest {
         at: unread.at,

@@ -9,6 +9,7 @@ ghost use Rattle.output.specs.Turns.{MustWrite};
 use lines::filling::fill;
 use lines::line::Cursor;
 use refusal::Outcome;
+use telling::fail;
 
 // What has come of text that was to be written.
 #[derive(Clone, Copy)]
@@ -20,16 +21,18 @@ pub enum Pending {
 }
 
 // Writes the first bytes of the buffer, and counts those that it handed over. That they were not taken is told.
-pub fn write_out(out: &[u8], used: usize) -> Pending
+pub fn write_out(rt: HostRuntime, out: &[u8], used: usize) -> Pending
     requires { used ≤ length out.now }
     ensures { HandedOver used result }
 {
     let part = &out[..used];
-    if io::write_all(libc::STDOUT_FILENO, part) {
-        return Pending::Bytes(part.len(), 0);
+    match rt.stdout().write_all(part) {
+        Ok(()) => Pending::Bytes(part.len(), 0),
+        Err(why) => {
+            fail(rt, b"standard output", why);
+            Pending::Failed
+        }
     }
-    os::fail(b"standard output");
-    Pending::Failed
 }
 
 // Whether one has to wait, which is where the two places meet, and has something to write before.
@@ -40,12 +43,12 @@ pub fn must_write(at: usize, end: usize, used: usize) -> bool
 }
 
 // Before one waits, what stands in the buffer is written.
-pub fn settle(out: &[u8], used: usize, waits: bool) -> Pending
+pub fn settle(rt: HostRuntime, out: &[u8], used: usize, waits: bool) -> Pending
     requires { used ≤ length out.now }
     ensures { Settled used waits result }
 {
     if waits {
-        write_out(out, used)
+        write_out(rt, out, used)
     } else {
         Pending::Bytes(0, used)
     }
@@ -75,6 +78,7 @@ fn is_over(cursor: Cursor) -> bool
 
 // Puts the answer's text behind what stands in the buffer, and writes the buffer out each time that it is full.
 pub fn put_answer(
+    rt: HostRuntime,
     outcome: Outcome,
     spans: &[u16],
     sets: &[u64],
@@ -90,7 +94,7 @@ pub fn put_answer(
     let mut end = filled.end;
     let mut cursor = filled.cursor;
     while !is_over(cursor) {
-        match write_out(out, end) {
+        match write_out(rt, out, end) {
             Pending::Bytes(gone, left) => {
                 let more = fill(outcome, spans, sets, cursor, out, left);
                 written += gone;

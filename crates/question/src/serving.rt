@@ -14,32 +14,51 @@ use output::say::say_title;
 use shape::room::room_for;
 
 // Puts the answer to a question behind what stands in the buffer, in sets of their own size.
-fn serve_in(question: &[u8], sets: &mut [u64], out: &mut [u8], used: usize) -> Pending
+fn serve_in(
+    rt: HostRuntime,
+    question: &[u8],
+    sets: &mut [u64],
+    out: &mut [u8],
+    used: usize,
+) -> Pending
     requires question_in_bounds { (room_for question.now ≤ length sets.old) × (length sets.old ≤ most_sets) }
     requires used_in_bounds { (used ≤ length out.old) × (line_room ≤ length out.old) }
     ensures { ServedBy question.now out.old used result out.new }
 {
     let mut spans = [0u16; 128];
     let outcome = answer(question, &mut spans, sets);
-    put_answer(outcome, &spans, sets, out, used)
+    put_answer(rt, outcome, &spans, sets, out, used)
 }
 
 // Puts the answer to a question behind what stands in the buffer. Of the sets no more is used than the question's heading has nodes for.
-pub fn serve(question: &[u8], sets: &mut [u64], out: &mut [u8], used: usize) -> Pending
+pub fn serve(
+    rt: HostRuntime,
+    question: &[u8],
+    sets: &mut [u64],
+    out: &mut [u8],
+    used: usize,
+) -> Pending
     requires { (most_room ≤ length sets.old) × (used ≤ length out.old) × (line_room ≤ length out.old) }
     ensures { ServedBy question.now out.old used result out.new }
 {
     let room = room_for(question);
-    serve_in(question, &mut sets[..room], out, used)
+    serve_in(rt, question, &mut sets[..room], out, used)
 }
 
 // The line with the question's number, and then its answer.
-pub fn say_answer(k: u64, question: &[u8], sets: &mut [u64], out: &mut [u8], used: usize) -> Pending
+pub fn say_answer(
+    rt: HostRuntime,
+    k: u64,
+    question: &[u8],
+    sets: &mut [u64],
+    out: &mut [u8],
+    used: usize,
+) -> Pending
     requires { (most_room ≤ length sets.old) × (used ≤ length out.old) × (line_room ≤ length out.old) }
     ensures { Said out.old used (title_text k ++ output question.now) result out.new }
 {
-    match say_title(k, out, used) {
-        Pending::Bytes(written, at) => with_written(written, serve(question, sets, out, at)),
+    match say_title(rt, k, out, used) {
+        Pending::Bytes(written, at) => with_written(written, serve(rt, question, sets, out, at)),
         Pending::Failed => Pending::Failed,
     }
 }

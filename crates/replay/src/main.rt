@@ -47,6 +47,7 @@ fn stop(pending: Pending) -> Turn
 
 // Says what there is to say of question k, if there is one.
 fn answer_next(
+    rt: HostRuntime,
     k: u64,
     next: Next,
     buffer: &[u8],
@@ -60,18 +61,19 @@ fn answer_next(
 {
     match next {
         Next::Ended => Turn::Stop(used),
-        Next::CutOff => stop(say_cut_off(k, out, used)),
-        Next::TooLong(rest, end) => go(rest, end, say_too_long(k, out, used)),
+        Next::CutOff => stop(say_cut_off(rt, k, out, used)),
+        Next::TooLong(rest, end) => go(rest, end, say_too_long(rt, k, out, used)),
         Next::Question(start, rest, end) => go(
             rest,
             end,
-            say_answer(k, &buffer[start..rest], sets, out, used),
+            say_answer(rt, k, &buffer[start..rest], sets, out, used),
         ),
     }
 }
 
 // One turn. Before it waits for more bytes it writes what it has, so that one who asks question by question is answered so too.
 fn take_turn(
+    rt: HostRuntime,
     k: u64,
     buffer: &mut [u8],
     at: usize,
@@ -84,17 +86,17 @@ fn take_turn(
     requires most_room_in_bounds { (most_room ≤ length sets.old) × (used ≤ length out.old) × (line_room ≤ length out.old) }
     ensures { TurnFrom k (unread buffer.old at end) (at ≡ end) buffer.new out.old used result out.new }
 {
-    match settle(out, used, must_write(at, end, used)) {
+    match settle(rt, out, used, must_write(at, end, used)) {
         Pending::Bytes(_, left) => {
-            let next = next_question(buffer, at, end);
-            answer_next(k, next, buffer, sets, out, left)
+            let next = next_question(rt, buffer, at, end);
+            answer_next(rt, k, next, buffer, sets, out, left)
         }
         Pending::Failed => Turn::Failed,
     }
 }
 
 // Turn after turn, until the batch is over.
-fn answer_all(buffer: &mut [u8], sets: &mut [u64], out: &mut [u8]) -> Turn
+fn answer_all(rt: HostRuntime, buffer: &mut [u8], sets: &mut [u64], out: &mut [u8]) -> Turn
     requires { (65535 ≤ length buffer.old) × (most_room ≤ length sets.old) × (line_room ≤ length out.old) }
     ensures { TurnsBy 18446744073709551615 buffer.new out.old result out.new }
 {
@@ -102,7 +104,7 @@ fn answer_all(buffer: &mut [u8], sets: &mut [u64], out: &mut [u8]) -> Turn
     for k in 0..u64::MAX {
         match turn {
             Turn::Go(at, end, used) => {
-                turn = take_turn(k, buffer, at, end, sets, out, used);
+                turn = take_turn(rt, k, buffer, at, end, sets, out, used);
             }
             Turn::Stop(_) => {
                 return turn;
@@ -115,14 +117,14 @@ fn answer_all(buffer: &mut [u8], sets: &mut [u64], out: &mut [u8]) -> Turn
     turn
 }
 
-fn main() {
+fn main(rt: HostRuntime) {
     let mut buffer = [0u8; ROOM];
     let mut sets = [0u64; MOST_ROOM];
     let mut out = io::large_buffer();
-    match answer_all(&mut buffer, &mut sets, &mut out) {
+    match answer_all(rt, &mut buffer, &mut sets, &mut out) {
         Turn::Go(_, _, _) => {}
         Turn::Stop(left) => {
-            write_out(&out, left);
+            write_out(rt, &out, left);
         }
         Turn::Failed => {}
     }

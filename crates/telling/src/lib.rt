@@ -1,0 +1,62 @@
+// What is told on standard error where a read or a write has failed.
+#![tactic(auto)]
+
+ghost use Rattle.std.specs.Prelude.{◌≤◌, ◌+◌, length};
+
+use std::fmt;
+use std::fmt::Write;
+use std::io::{Error, Print};
+
+// Room for the text of an error.
+const ROOM: usize = 256;
+
+// Text that is formatted into a buffer; what has no room is dropped.
+#[derive(Drop)]
+struct Words {
+    bytes: [u8; ROOM],
+    used: usize,
+}
+
+impl fmt::Write for Words {
+    fn write_str(&mut self, text: &str) -> fmt::Result {
+        for byte in text.as_bytes() {
+            let at = self.used;
+            if at < ROOM {
+                self.bytes[at] = *byte;
+                self.used = at + 1;
+            }
+        }
+        Ok(())
+    }
+}
+
+// Where the text of the error ends: behind it stands its number in brackets.
+fn text_end(text: &[u8]) -> usize
+    ensures { result ≤ length text.now }
+{
+    for i in 0..text.len() {
+        if text[i..].starts_with(b" (os error ") {
+            return i;
+        }
+    }
+    text.len()
+}
+
+// Writes a line to standard error: what failed, a colon and the error's text.
+pub fn fail(rt: HostRuntime, what: &[u8], why: Error) {
+    let mut words = Words {
+        bytes: [0; ROOM],
+        used: 0,
+    };
+    let _ = write!(words, "{why}");
+    let told = rt.stderr();
+    let _ = told.write_all(what);
+    let _ = told.write_all(b": ");
+    let used = words.used;
+    if used <= ROOM {
+        let text = &words.bytes[..used];
+        let end = text_end(text);
+        let _ = told.write_all(&text[..end]);
+    }
+    let _ = told.write_all(b"\n");
+}
