@@ -1,0 +1,14 @@
+-- There are enough bytes, or the input has ended.
+use native.Mathlib.Omega.{arith}
+use Rattle.input.proofs.Behind.{too_few, enough}
+use Rattle.input.proofs.batch.whole_question.Goals as goal
+
+pub returns-then-unread-count : goal.returns-then-unread-count
+returns-then-unread-count c =
+    let read = c.read_until-unread in
+    too_few _ _ _ _ read.result read.new.buffer read.auto.buffer read.ensures (omega arith)
+
+pub returns : goal.returns
+returns c =
+    let read = c.read_until-unread in
+    enough _ _ _ _ read.result read.new.buffer read.auto.buffer read.ensures (omega arith) (omega arith)
