@@ -3,8 +3,3 @@ pub mod Listing
 pub mod Steps
 pub mod OneRecords
 pub mod Tied
--- for the proofs by hand
-mod Enter
-mod Loop
-mod Again
-mod Room

@@ -11,7 +11,7 @@ use Rattle.table.specs.declared.read.Pair.{Pair}
 use Rattle.writer.specs.Said.{said}
 use Rattle.writer.specs.declared.Writing.{Writing}
 use Rattle.writer.specs.declared.Writing.TheVariants.{Written}
-use Rattle.writer.proofs.Answers.{one_said, read_back, written-again}
+use Rattle.writer.proofs.Answers.{one_said, read_back, written_again}
 use Rattle.records.specs.Records.{listed, WriteRecords}
 
 module _ (arities : List ℕ) (records : List Pair) (output : List ℕ) where
@@ -29,4 +29,4 @@ module _ (arities : List ℕ) (records : List Pair) (output : List ℕ) where
 pub writes_again : (table output : List ℕ) → Bytes table → SoundFile table → length table ≤ length output → (records : List Pair) → listed records ≡ pairs_in table
     → (r : Writing) (later : List ℕ) → WriteRecords (arities_in table) records output r later
     → (r ≡ Written (length table)) × (later ≡ table ++ drop (length table) output)
-writes_again table output b s l records same r later p = written-again table output b s l (listed records) same r later p.answers p.leaves
+writes_again table output b s l records same r later p = written_again table output b s l (listed records) same r later p.answers p.leaves

@@ -1,5 +1,5 @@
-// The table writer on pair records: their numbers are copied to a list, and the writer on numbers does the rest. A function over a slice of
-// structs is proved by hand, step by step; so the functions here decide nothing but how much room the list has.
+// The table writer on pair records: their numbers are copied to a list, and the writer on numbers does the rest. So the functions here decide
+// nothing but how much room the list has.
 #![tactic(auto)]
 
 ghost use Rattle.std.specs.Prelude.{◌≡◌, [], ◌∷◌, ◌+◌, ◌*◌, ◌≤◌, length, take};
