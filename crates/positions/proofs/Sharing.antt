@@ -3,7 +3,7 @@
 use mathlib.Core.Path.{◌≡◌, refl, sym as inv, ap, ap₂, ◌∙◌}
 use mathlib.Core.List.{List}
 use mathlib.Core.Bool.{Bool, true, false, ◌&&◌, cond, false≢true}
-use Prim.Native.Nat.{ℕ, ◌+◌, ◌-◌, ◌≤◌, ◌<◌, min}
+use Prim.Native.Nat.{ℕ, ◌+◌, ◌≤◌, ◌<◌, min}
 use native.Mathlib.Decide.{dec_lt, dec_le, ℕ_discrete}
 use native.Mathlib.Omega.{arith}
 use borrow.Author.Tests.{lt-ltb, le-ltb, le-leb, lt-leb, leb-true, eq-eqb, ne_eqb}
@@ -11,7 +11,7 @@ use lib.Dec.{ltb, leb, eqb}
 use lib.ListN.{length}
 use Rattle.theory.specs.Table.{Table, Lawful}
 use Rattle.theory.specs.Least.{lowest}
-use Rattle.theory.proofs.Lemmas.{fewest, lowest_le, lowest_top, le_lowest, and_left, and_right, and_true, skipped}
+use Rattle.theory.proofs.Lemmas.{fewest, lowest_le, lowest_top, le_lowest, and_right, and_true, skipped}
 use Rattle.meaning.specs.Limits.{set_words_lem, set_room}
 use Rattle.meaning.specs.Buffers.{member}
 use Rattle.sets.specs.Words.{NoneBetween, NextBelow}

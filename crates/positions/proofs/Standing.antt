@@ -12,7 +12,7 @@ use lib.Dec.{ltb, leb, eqb}
 use lib.ListN.{length, get_or}
 use Rattle.theory.specs.Tree.{Term, node, ∅}
 use Rattle.theory.specs.Table.{Table, Lawful}
-use Rattle.theory.specs.Least.{least, All, lowest, highest}
+use Rattle.theory.specs.Least.{All, lowest, highest}
 use Rattle.theory.specs.Match.{at, shared, in_set, lowest_at_lem, highest_at}
 use Rattle.theory.specs.Stands.{StandsAt, start_of, size_of, Gathered}
 use Rattle.theory.proofs.Lemmas.{least_top, all_of_least, least_of_all, all_get_d, lowest_le, lowest_top, le_lowest}

@@ -1,5 +1,5 @@
 -- What the functions on one position come to.
-use Rattle.std.specs.Prelude.{◌≡◌, List, true, false, ℕ, ◌+◌, ◌≤◌, ◌<◌, min, eqb, get_or}
+use Rattle.std.specs.Prelude.{◌≡◌, List, true, false, ℕ, ◌+◌, ◌≤◌, min, eqb, get_or}
 use Rattle.theory.specs.Table.{Table, Lawful}
 use Rattle.theory.specs.Stands.{start_of}
 use Rattle.meaning.specs.Buffers.{member}
