@@ -1,7 +1,7 @@
 -- What a check of the table says to a call: that it is sound, or the refusal that the call then gives.
 use mathlib.Core.Path.{◌≡◌, sym, ap, ◌∙◌}
 use mathlib.Core.List.{List, ◌++◌}
-use mathlib.Core.Option.{none, some as just}
+use mathlib.Core.Option.{some as just}
 use Prim.Native.Nat.{ℕ}
 use Rattle.meaning.specs.Refusals.{Refusal as Given, refusal, Row, first, table_rows, SoundFile}
 use Rattle.meaning.specs.Calls.{unless}

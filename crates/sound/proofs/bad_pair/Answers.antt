@@ -9,14 +9,14 @@ use native.Mathlib.Numerals.{add-one}
 use native.Mathlib.Omega.{arith}
 use lib.ListN.{length}
 use Rattle.theory.specs.Least.{least_below}
-use Rattle.meaning.specs.File.{symbol_count_lem, pair_count_lem, arities_in, pairs_in}
+use Rattle.meaning.specs.File.{pair_count_lem, arities_in, pairs_in}
 use Rattle.meaning.specs.Refusals.{row, row4, bad_pair_lem}
 use Rattle.meaning.proofs.First.{least_on, least_at}
 use Rattle.meaning.proofs.Sound.{length-pairs_in}
 use Rattle.table.proofs.Pairs.{key_next, good_read}
 use Rattle.sound.proofs.InFile.{as_many}
 use Rattle.sound.proofs.bad_pair.Goals as goal
-use Rattle.sound.proofs.bad_pair.Goals.{After-good_until-k, After-may_follow}
+use Rattle.sound.proofs.bad_pair.Goals.{After-may_follow}
 
 -- whether the pair may follow is whether it is good
 told : (c : goal.After-may_follow)
@@ -25,21 +25,18 @@ told : (c : goal.After-may_follow)
 told c =
     let head = c.loop-k in
     rw (c.may_follow.ensures, c.requires.0, c.number_at-lower.ensures, c.number_at-higher.ensures, c.number_at-degree.ensures, head.invariant.1, head.invariant.2)
-    (good_read c.args.file.now (λ j. (c.shared_slice_known-1.given j).fits) head.k (omega arith))
-
-counted : (c : goal.After-good_until-k) → length c.args.arities.now ≡ symbol_count_lem c.args.file.now
-counted c = let start = c in as_many start.args.file.now start.args.arities.now start.requires.0 (omega arith)
+    (good_read c.args.file.now (λ j. (c.type_inv.file j).fits) head.k (omega arith))
 
 pub overflow_add-at-2 : goal.overflow_add-at-2
 overflow_add-at-2 c =
-    let inside : 10 + length c.args.arities.now + 6 * c.good_until-k.result ≤ length c.args.file.now = omega (arith, counted (goal.at.overflow_add-at-2 c).After-good_until-k) in
+    let inside : 10 + length c.args.arities.now + 6 * c.good_until-k.result ≤ length c.args.file.now = omega (arith, as_many c.args.file.now c.args.arities.now c.requires.0 (omega arith)) in
     search rules
 
 pub key_before-previous-requires : goal.key_before-previous-requires
-key_before-previous-requires c = (omega arith, omega (arith, counted (goal.at.key_before-previous-requires c).After-good_until-k), omega (arith, counted (goal.at.key_before-previous-requires c).After-good_until-k))
+key_before-previous-requires c = (omega arith, omega (arith, as_many c.args.file.now c.args.arities.now c.requires.0 (omega arith)), omega (arith, as_many c.args.file.now c.args.arities.now c.requires.0 (omega arith)))
 
 pub loop-k-init : goal.loop-k-init
-loop-k-init c = (omega arith, omega (arith, counted (goal.at.loop-k-init c).After-good_until-k), c.key_before-previous.ensures, c.good_until-k.ensures.1)
+loop-k-init c = (omega arith, omega (arith, as_many c.args.file.now c.args.arities.now c.requires.0 (omega arith)), c.key_before-previous.ensures, c.good_until-k.ensures.1)
 
 pub returns-then-not-may_follow : goal.returns-then-not-may_follow
 unfolding row4
@@ -47,8 +44,8 @@ returns-then-not-may_follow c =
     let f = c.args.file.now in
     let k = c.loop-k.k in
     let bad = bad_pair_lem (arities_in f) (pairs_in f) in
-    let is-bad : bad k ≡ true = not-false (bad k) (sym (told (goal.at.returns-then-not-may_follow c).After-may_follow) ∙ c.if-not-may_follow.true) in
-    ap (row 4) (least_at bad k (length (pairs_in f)) c.loop-k.invariant.3 is-bad (omega (arith, length-pairs_in f)))
+    let is_bad : bad k ≡ true = not-false (bad k) (sym (told (goal.at.returns-then-not-may_follow c).After-may_follow) ∙ c.if-not-may_follow.true) in
+    ap (row 4) (least_at bad k (length (pairs_in f)) c.loop-k.invariant.3 is_bad (omega (arith, length-pairs_in f)))
 
 pub loop-k-preserved : goal.loop-k-preserved
 loop-k-preserved c =
@@ -57,11 +54,11 @@ loop-k-preserved c =
     let i = c.loop-k.invariant in
     let l : k < pair_count_lem f = omega arith in
     let bad = bad_pair_lem (arities_in f) (pairs_in f) in
-    let is-good : bad k ≡ false = not-true (bad k) (sym (told (goal.at.loop-k-preserved c).After-may_follow) ∙ c.if-not-may_follow.false) in (
+    let is_good : bad k ≡ false = not-true (bad k) (sym (told (goal.at.loop-k-preserved c).After-may_follow) ∙ c.if-not-may_follow.false) in (
       omega arith,
       omega arith,
       rw (c.key-previous.ensures, c.number_at-lower.ensures, c.number_at-higher.ensures, i.1) (sym (key_next f k l)),
-      rw (add-one k) (least_on bad k i.3 is-good),
+      rw (add-one k) (least_on bad k i.3 is_good),
     )
 
 pub returns : goal.returns

@@ -2,7 +2,6 @@
 use borrow.Author.Tests.{eq-eqb, ne_eqb}
 use mathlib.Core.Path.{sym, ap}
 use mathlib.Core.Bool.{not}
-use Prim.Native.Nat.{ℕ, ◌<◌}
 use native.Mathlib.Omega.{arith}
 use lib.Dec.{eqb}
 use lib.ListN.{length}
@@ -10,10 +9,6 @@ use Rattle.meaning.specs.File.{number, pairs_at_lem, total}
 use Rattle.meaning.specs.Refusals.{row, at0, row1_offsets}
 use Rattle.table.proofs.Pairs.{number_small}
 use Rattle.sound.proofs.well_placed.Goals as goal
-use Rattle.sound.proofs.well_placed.Goals.{Start}
-
-small : (c : goal.Start) (i : ℕ) → number c.args.file.now i < 65536
-small TODO-context-Start i = number_small c.args.file.now (λ j. (c.shared_slice_known-1.given j).fits) i
 
 pub returns-then-number_at-ne10 : goal.returns-then-number_at-ne10
 unfolding row1_offsets
@@ -22,7 +17,7 @@ returns-then-number_at-ne10 c =
     rw (ne_eqb (number f 4) 10 (λ e. omega arith))
 
 pub overflow_add-symbols : goal.overflow_add-symbols
-overflow_add-symbols c = omega (arith, small (goal.at.overflow_add-symbols c).Start 0)
+overflow_add-symbols c = omega (arith, number_small c.args.file.now (λ j. (c.type_inv.file j).fits) 0)
 
 pub returns-then-number_at-symbols : goal.returns-then-number_at-symbols
 unfolding row1_offsets
@@ -31,10 +26,10 @@ returns-then-number_at-symbols c =
     rw (eq-eqb (number f 4) 10 (omega arith), ne_eqb (number f 6) (pairs_at_lem (number f 0)) (λ e. omega arith))
 
 pub overflow_mul-pairs : goal.overflow_mul-pairs
-overflow_mul-pairs c = omega (arith, small (goal.at.overflow_mul-pairs c).Start 2)
+overflow_mul-pairs c = omega (arith, number_small c.args.file.now (λ j. (c.type_inv.file j).fits) 2)
 
 pub overflow_add-symbols-3 : goal.overflow_add-symbols-3
-overflow_add-symbols-3 c = omega (arith, small (goal.at.overflow_add-symbols-3 c).Start 0, small (goal.at.overflow_add-symbols-3 c).Start 2)
+overflow_add-symbols-3 c = omega (arith, number_small c.args.file.now (λ j. (c.type_inv.file j).fits) 0, number_small c.args.file.now (λ j. (c.type_inv.file j).fits) 2)
 
 pub returns-then-total-symbols : goal.returns-then-total-symbols
 unfolding row1_offsets

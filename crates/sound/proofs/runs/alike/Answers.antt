@@ -16,8 +16,8 @@ use Rattle.sound.proofs.runs.alike.Goals as goal
 lower_of : (file : List ℕ) (at j : ℕ) → numbers_from file at (3 * (j + 1)) ≡ number file (at + 6 * (j + 1))
 lower_of file at j = ap (number file) (omega arith)
 
-higher-of : (file : List ℕ) (at j : ℕ) → numbers_from file at (3 * (j + 1) + 1) ≡ number file (at + 6 * (j + 1) + 2)
-higher-of file at j = ap (number file) (omega arith)
+higher_of : (file : List ℕ) (at j : ℕ) → numbers_from file at (3 * (j + 1) + 1) ≡ number file (at + 6 * (j + 1) + 2)
+higher_of file at j = ap (number file) (omega arith)
 
 pub loop-j-init : goal.loop-j-init
 loop-j-init c = (omega arith, λ i l. absurd (not-suc-le-zero l))
@@ -33,7 +33,7 @@ pub bounds-arities-higher : goal.bounds-arities-higher
 bounds-arities-higher c =
     let j = c.loop-j.j in
     let next = c.requires.1 j (omega arith) in
-    let higher = higher-of c.args.file.now c.args.at j in
+    let higher = higher_of c.args.file.now c.args.at j in
     omega (arith, next.inside, c.number_at-higher.ensures, higher)
 
 pub returns-then-arities-lower : goal.returns-then-arities-lower
@@ -47,7 +47,7 @@ loop-j-preserved c =
     let higher = c.number_at-higher in
     let same : get_or a.arities.now lower.result 0 ≡ get_or a.arities.now higher.result 0 = omega arith in
     let here : Alike a.arities.now (pair_of (numbers_from a.file.now a.at) (head.j + 1)) =
-    rw (lower_of a.file.now a.at head.j, higher-of a.file.now a.at head.j, sym lower.ensures, sym higher.ensures) same in
+    rw (lower_of a.file.now a.at head.j, higher_of a.file.now a.at head.j, sym lower.ensures, sym higher.ensures) same in
     (omega arith, one_more (λ i. Alike a.arities.now (pair_of (numbers_from a.file.now a.at) (i + 1))) head.j head.invariant.1 here)
 
 pub returns : goal.returns

@@ -17,4 +17,4 @@ returns c =
     let e : pair_start f 0 ≡ 10 + symbol_count_lem f = omega arith in
     rw (c.may_follow.ensures, c.requires.0, c.number_at-2.ensures, c.number_at-3.ensures, c.number_at-4.ensures, c.number_at.ensures)
     (subst (λ i. (not (unsound (arities_in f) (pair_at f i)) && ltb 0 (pair_key (pair_at f i))) ≡ not (bad_pair_lem (arities_in f) (pairs_in f) 0)) e
-    (good_read f (λ j. (c.shared_slice_known-1.given j).fits) 0 (omega arith)))
+    (good_read f (λ j. (c.type_inv.file j).fits) 0 (omega arith)))

@@ -32,7 +32,6 @@ returns-then-not-alike c = (omega arith, c.loop-last.invariant.2)
 
 pub loop-last-preserved : goal.loop-last-preserved
 loop-last-preserved c =
-    let known = c.shared_slice_known-1.given in
     let head = c.loop-last in
     let file = c.args.file.now in
     let arities = c.args.arities.now in
@@ -42,7 +41,7 @@ loop-last-preserved c =
     let symbols = c.number_at-symbols.ensures ∙ sym (as_many file arities c.requires.0 (omega arith)) ∙ ap length c.requires.0 in (
       omega arith,
       omega arith,
-      run_good (arities_in file) (pairs_in file) (short_in file (λ j. (known j).fits)) head.new numbers (λ j l. pair_of_run file head.new head.at head.invariant.1 j (omega arith))
+      run_good (arities_in file) (pairs_in file) (short_in file (λ j. (c.type_inv.file j).fits)) head.last numbers (λ j l. pair_of_run file head.last head.at head.invariant.1 j (omega arith))
           (subst (λ s. OrderedRun s numbers) symbols ordered) (subst (λ ar. AlikeRun ar numbers) c.requires.0 alike) head.invariant.2,
     )
 
