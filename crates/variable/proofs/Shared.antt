@@ -9,7 +9,7 @@ use lib.ListN.{length, get_or}
 use Rattle.theory.specs.Tree.{Term}
 use Rattle.theory.specs.Table.{Table}
 use Rattle.theory.specs.Match.{in_set, lowest_at_lem, highest_at}
-use Rattle.theory.specs.Stands.{start_of, size_of, Gathered}
+use Rattle.theory.specs.Stands.{start_of, Gathered}
 use Rattle.meaning.specs.Limits.{set_room}
 use Rattle.meaning.specs.File.{table_in}
 use Rattle.meaning.specs.Buffers.{member}
@@ -18,7 +18,7 @@ use Rattle.positions.specs.Position.{note_count, KeptOf, NearOf, NearTo, StandAt
 use Rattle.positions.specs.Looked.{LookedAt, DegreesAt}
 use Rattle.positions.specs.declared.faced.Faced.{Faced}
 use Rattle.positions.specs.declared.shared.Shared.{Shared}
-use Rattle.positions.proofs.Standing.{stand_symbols, set-shared, lowest-shared, highest-shared, set-none, lowest-none, highest-none}
+use Rattle.positions.proofs.Standing.{set-shared, lowest-shared, highest-shared, set-none, lowest-none, highest-none}
 use Rattle.variable.specs.Variable.{OwnNotes}
 
 module _ {table near heading notes : List ℕ} (own : OwnNotes table near heading notes) {k : ℕ} {faced : List ℕ} (stand : StandAt heading notes k (note_count notes) faced) where
