@@ -11,7 +11,7 @@ use Rattle.writer.specs.Said.{said}
 use Rattle.writer.specs.declared.Writing.{Writing}
 use Rattle.writer.specs.declared.Writing.TheVariants.{Written}
 use Rattle.writer.proofs.Numbers.{pairs_of_numbers}
-use Rattle.writer.proofs.Answers.{one_said, read_back, written-again}
+use Rattle.writer.proofs.Answers.{one_said, read_back, written_again}
 use Rattle.tables.specs.Writing.{WriteTable}
 
 module _ (arities numbers output : List ℕ) where
@@ -29,4 +29,4 @@ module _ (arities numbers output : List ℕ) where
 pub writes_again : (table output : List ℕ) → Bytes table → SoundFile table → length table ≤ length output
     → (r : Writing) (later : List ℕ) → WriteTable (arities_in table) (numbers_of_lem (pairs_in table)) output r later
     → (r ≡ Written (length table)) × (later ≡ table ++ drop (length table) output)
-writes_again table output b s l r later p = written-again table output b s l (pairs_of (numbers_of_lem (pairs_in table))) (pairs_of_numbers (pairs_in table)) r later p.answers p.leaves
+writes_again table output b s l r later p = written_again table output b s l (pairs_of (numbers_of_lem (pairs_in table))) (pairs_of_numbers (pairs_in table)) r later p.answers p.leaves
