@@ -1,5 +1,5 @@
 -- The calls on terms: what each promises for everything that can be lent to it. A list is handed back as a reference, which has what it holds
--- (`now`) and where it lies (`ptr`: a block and an offset in bytes). A whole list is handed back as the reference that was lent; a part of one
+-- (`now`) and where it lies (`ref_ptr`: a block and an offset in bytes). A whole list is handed back as the reference that was lent; a part of one
 -- is a new reference, of which both are said.
 use Rattle.std.specs.Prelude.{◌≡◌, List, Bool, true, false, ℕ, ◌+◌, ◌*◌, take, drop}
 use Rattle.std.proofs.Math.Option.{Option, none, some as just}
