@@ -2,8 +2,8 @@
 -- on the chain of its digest is none of those chained. Blocks are sought one after the other, and an entry that is new to each is new.
 use mathlib.Core.Path.{◌≡◌, refl, sym as inv, ap, ◌∙◌}
 use mathlib.Core.List.{List}
-use mathlib.Core.Bool.{Bool, true, false, ◌||◌, false≢true}
-use Prim.Native.Nat.{ℕ, zero, suc, ◌+◌, ◌*◌, ◌-◌, ◌%◌, ◌≤◌, ◌<◌}
+use mathlib.Core.Bool.{Bool, true, false, false≢true}
+use Prim.Native.Nat.{ℕ, ◌+◌, ◌*◌, ◌-◌, ◌%◌, ◌≤◌, ◌<◌}
 use native.Mathlib.Decide.{dec_lt, ℕ_discrete}
 use native.Mathlib.Omega.{arith}
 use borrow.Author.Count.{below_none, below_more}
@@ -18,7 +18,7 @@ use Rattle.marc.specs.Known.{same}
 use Rattle.marc.proofs.Strings.{none_of, left_is, not_same}
 use Rattle.marc.proofs.Unfit.{some_below}
 use Rattle.known_strings.specs.Lent.{string_in, listed_above, bad_in}
-use Rattle.known_strings.specs.Chains.{digests, digest_from, digest_of, block_size, has_digest, LinkedTo, Chained, ChainFrom, FineTo, BadFrom}
+use Rattle.known_strings.specs.Chains.{digests, digest_from, digest_of, block_size, has_digest, Chained, ChainFrom, FineTo}
 
 -- ---- digests
 

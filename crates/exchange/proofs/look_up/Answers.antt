@@ -1,8 +1,7 @@
 -- The span that is found lies inside the field, and its bytes are what is looked up.
 use mathlib.Core.Path.{◌≡◌, sym, ap, subst, ◌∙◌}
-use mathlib.Core.List.{List}
 use mathlib.Core.Option.{some as just}
-use Prim.Native.Nat.{ℕ, ◌-◌, ◌≤◌}
+use Prim.Native.Nat.{◌-◌, ◌≤◌}
 use lib.ListN.{length, take, drop}
 use Rattle.marc.specs.Subfields.{subfield}
 use Rattle.marc_record.specs.Spans.{Inside, bytes_of}

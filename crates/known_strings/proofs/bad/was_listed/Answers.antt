@@ -1,6 +1,5 @@
 -- The loop keeps that no string passed is the one at j.
 use mathlib.Core.Path.{◌≡◌, refl, sym, ap, ap₂, ◌∙◌}
-use mathlib.Core.Bool.{false}
 use native.Mathlib.Omega.{arith}
 use Rattle.theory.specs.Least.{some}
 use Rattle.theory.proofs.Lemmas.{some_of}

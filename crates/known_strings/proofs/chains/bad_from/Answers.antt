@@ -5,7 +5,7 @@ use mathlib.Core.Bool.{true}
 use Prim.Native.Nat.{ℕ, ◌+◌, ◌-◌, ◌≤◌}
 use native.Mathlib.Omega.{arith}
 use lib.Dec.{eqb}
-use lib.ListN.{length, get_or, set, length-set, length-replicate}
+use lib.ListN.{get_or, length-set, length-replicate}
 use mathlib.Core.List.{List}
 use Rattle.theory.specs.Least.{some}
 use Rattle.theory.proofs.Lemmas.{or_right}

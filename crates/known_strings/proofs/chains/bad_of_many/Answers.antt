@@ -1,6 +1,5 @@
 -- Block after block the loop keeps that no entry before `end` is bad by what was sought so far, and that the one there is, if it is not behind the last.
 use mathlib.Core.Path.{◌≡◌, sym, ap, ◌∙◌}
-use mathlib.Core.Bool.{true}
 use Prim.Native.Nat.{◌+◌}
 use native.Mathlib.Omega.{arith}
 use Rattle.theory.specs.Least.{least_below}

@@ -1,5 +1,4 @@
 -- The end of the string before it.
-use Prim.Native.Nat.{◌-◌}
 use native.Mathlib.Omega.{arith}
 use Rattle.known_strings.proofs.Entries.{begins_behind}
 use Rattle.known_strings.proofs.list.begin_of.Goals as goal

@@ -1,6 +1,5 @@
 -- A string is the part of the text between the end before it and its own.
 use mathlib.Core.Path.{◌∙◌}
-use native.Mathlib.Omega.{arith}
 use Rattle.known_strings.proofs.Entries.{part_is}
 use Rattle.known_strings.proofs.list.string_at.Goals as goal
 

@@ -1,8 +1,7 @@
 -- The next position, or else the next variable.
 use borrow.Author.Tests.{lt-ltb, le-ltb}
-use Prim.Native.Nat.{◌+◌, ◌*◌}
+use Prim.Native.Nat.{◌+◌}
 use native.Mathlib.Omega.{arith}
-use Rattle.meaning.specs.Limits.{span_width}
 use Rattle.meaning.specs.Buffers.{position_count_lem}
 use Rattle.lines.specs.Lines.{after_position_lem}
 use Rattle.lines.proofs.line.after_position.Goals as goal
