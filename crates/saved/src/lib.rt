@@ -16,6 +16,7 @@ const SAVED_WORDS: usize = 4;
 const TIMES: usize = SymbolSet::WORDS / SAVED_WORDS;
 
 // Word w, as it is today, of the set that was saved at a position.
+#[tactic(auto, using(crate::proofs::Widening::word_saved, crate::proofs::Widening::word_new))]
 fn saved_word(words: &[u64], position: usize, w: usize) -> u64
     requires { (saved_words * (position + 1) ≤ length words.now) × (w < set_words_lem) }
     ensures { result ≡ get_or (widened_set words.now position) w 0 }
