@@ -6,5 +6,3 @@ pub mod Written
 pub mod OneCapi
 pub mod Wide
 pub mod Tied
--- for the proof by hand
-mod Types

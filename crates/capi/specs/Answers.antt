@@ -19,5 +19,5 @@ module _ {A : Type 0} where
   later field (gives a) lent = field a
 
 -- The same where the answer is a number itself.
-abbrev pub laterNumber : Answer ℕ → ℕ → ℕ
-laterNumber = later (λ n. n)
+abbrev pub later_number : Answer ℕ → ℕ → ℕ
+later_number = later (λ n. n)

@@ -3,7 +3,7 @@
 use Rattle.std.specs.Prelude.{◌≡◌, List, ℕ}
 use Rattle.theory.specs.Pairs.{Pair, pair}
 use Rattle.meaning.specs.Calls.{is_table_lem, symbol_degree_lem, arity_back, pair_back}
-use Rattle.capi.specs.Answers.{coded, later, laterNumber}
+use Rattle.capi.specs.Answers.{coded, later, later_number}
 
 -- ---- 1. Is this a table?
 
@@ -14,13 +14,13 @@ ShxTable table r = r ≡ coded (is_table_lem table)
 
 pub record ShxSymbolDegree (table : List ℕ) (a b degree r degree' : ℕ) : Type 0 where
   pub answers : r ≡ coded (symbol_degree_lem table a b)
-  pub leaves : degree' ≡ laterNumber (symbol_degree_lem table a b) degree
+  pub leaves : degree' ≡ later_number (symbol_degree_lem table a b) degree
 
 -- ---- 8. The arity of a symbol, and the pair at an index, read back.
 
 pub record ShxArity (table : List ℕ) (symbol arity r arity' : ℕ) : Type 0 where
   pub answers : r ≡ coded (arity_back table symbol)
-  pub leaves : arity' ≡ laterNumber (arity_back table symbol) arity
+  pub leaves : arity' ≡ later_number (arity_back table symbol) arity
 
 abbrev pub lower_of : Pair → ℕ
 lower_of (pair lower higher degree) = lower

@@ -1,13 +1,13 @@
 -- The calls on terms: what each promises for everything that can be lent to it.
 use Rattle.std.specs.Prelude.{◌≡◌, List, ℕ}
 use Rattle.meaning.specs.Calls.{heading_degree, Part, part, subterm, Nearer, the_first, the_second_lem, neither, nearer}
-use Rattle.capi.specs.Answers.{coded, laterNumber}
+use Rattle.capi.specs.Answers.{coded, later_number}
 
 -- ---- 3. The degree of two headings.
 
 pub record ShxHeadingDegree (table one two : List ℕ) (degree r degree' : ℕ) : Type 0 where
   pub answers : r ≡ coded (heading_degree table one two)
-  pub leaves : degree' ≡ laterNumber (heading_degree table one two) degree
+  pub leaves : degree' ≡ later_number (heading_degree table one two) degree
 
 -- ---- 4. The subterm at an index: how many nodes it has. It starts at that index, and the empty part, of no nodes, at the list's start.
 

@@ -1,7 +1,7 @@
 // The table writer.
 ghost use Rattle.std.specs.Prelude.{◌≡◌};
 ghost use Rattle.writer.specs.Said.{said};
-ghost use Rattle.capi.specs.Answers.{coded, laterNumber};
+ghost use Rattle.capi.specs.Answers.{coded, later_number};
 ghost use Rattle.capi.specs.Writing.{ShxWriteTable};
 
 use crate::answer::refused;
@@ -11,7 +11,7 @@ use writer::Writing;
 
 // How much was written noted, or a refusal's number.
 pub fn note(writing: Writing, total: &mut usize) -> u32
-    ensures { (result ≡ coded (said writing)) × (total.new ≡ laterNumber (said writing) total.old) }
+    ensures { (result ≡ coded (said writing)) × (total.new ≡ later_number (said writing) total.old) }
 {
     match writing {
         Writing::Written(length) => {

@@ -16,7 +16,7 @@ use Rattle.records.specs.Records.{listed}
 use Rattle.headings.specs.Terms.{Nodes, Subterm, Nearer}
 use Rattle.marc.specs.Known.{known_in}
 use Rattle.marc.specs.Heading.{heading_call}
-use Rattle.capi.specs.Answers.{coded, later, laterNumber}
+use Rattle.capi.specs.Answers.{coded, later, later_number}
 use Rattle.capi.specs.Tables.{lower_of, higher_of, degree_of}
 use Rattle.capi.specs.Terms.{count_of, chosen}
 use Rattle.capi.specs.Marc.{wide_coded}
@@ -32,8 +32,8 @@ use Rattle.demands.proofs.Public.{records_list}
 use Rattle.demands.proofs.Decoded.{Decodes, table_decodes, symbols_decode, headings_decode, match_decodes, writer_decodes, arity_decodes, pair_decodes, widen_decodes, record_decodes, subterm_decodes, subterm_inside, nearer_decodes, chosen_few, none-chosen}
 
 -- a code and a number are read as the answer
-number_read : (c : Cell) {answer : Answer ℕ} {code : ℕ} → Decodes answer → code ≡ coded answer → c.after ≡ laterNumber answer c.before → answer_of code c.after ≡ answer
-number_read c decodes answers leaves = ap₂ answer_of answers leaves ∙ decodes (λ x. laterNumber x c.before) (λ n. refl)
+number_read : (c : Cell) {answer : Answer ℕ} {code : ℕ} → Decodes answer → code ≡ coded answer → c.after ≡ later_number answer c.before → answer_of code c.after ≡ answer
+number_read c decodes answers leaves = ap₂ answer_of answers leaves ∙ decodes (λ x. later_number x c.before) (λ n. refl)
 
 -- a refusal leaves a number as it was
 untouched : {A : Type 0} (field : A → ℕ) (c : Cell) {answer : Answer A} {n place : ℕ} → answer ≡ refused n place → c.after ≡ later field answer c.before → Untouched c
@@ -180,7 +180,7 @@ module _ (C : CCalls) (k : CKept C) where
 
 module _ (held : ℕ) where
   abbrev number : Answer ℕ → CNumber
-  number answer = record { code = coded answer; number = record { before = held; after = laterNumber answer held } }
+  number answer = record { code = coded answer; number = record { before = held; after = later_number answer held } }
 
   -- results that are all allowed
   pub some_c_calls : CCalls

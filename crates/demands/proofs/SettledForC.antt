@@ -19,7 +19,7 @@ use Rattle.records.specs.Records.{listed}
 use Rattle.headings.specs.Terms.{Nodes, IsPart, IsChosen}
 use Rattle.marc.specs.Known.{known_in}
 use Rattle.marc.specs.Heading.{heading_call}
-use Rattle.capi.specs.Answers.{coded, later, laterNumber}
+use Rattle.capi.specs.Answers.{coded, later, later_number}
 use Rattle.capi.specs.Tables.{lower_of, higher_of, degree_of, ShxPair}
 use Rattle.capi.specs.Terms.{count_of, chosen}
 use Rattle.capi.specs.Matching.{ShxMatch}
@@ -66,13 +66,13 @@ module _ {A : Type 0} (code : ℕ) (a : A) where
 
 -- a number with its code
 number_back : (code : ℕ) (c : Cell) (answer : Answer ℕ) → answer_of code c.after ≡ answer → ((n place : ℕ) → answer_of code c.after ≡ refused n place → Untouched c)
-    → (code ≡ coded answer) × (c.after ≡ laterNumber answer c.before)
+    → (code ≡ coded answer) × (c.after ≡ later_number answer c.before)
 number_back code c answer is kept = (code_back code c.after answer is, left_back code c.after (λ n. n) c.before answer is kept)
 
 -- .. and with an output
 writing_back : (r : CWriting) (w : Wrote) → record { answer = answer_of r.code r.count.after; output = r.output } ≡ w
     → ((n place : ℕ) → answer_of r.code r.count.after ≡ refused n place → Untouched r.count)
-    → (r.code ≡ coded w.answer) × (r.count.after ≡ laterNumber w.answer r.count.before) × (r.output ≡ w.output)
+    → (r.code ≡ coded w.answer) × (r.count.after ≡ later_number w.answer r.count.before) × (r.output ≡ w.output)
 writing_back r w is kept = let b = number_back r.code r.count w.answer (ap (λ x. x.answer) is) kept in (b.0, b.1, ap (λ x. x.output) is)
 
 -- the degrees of a match
