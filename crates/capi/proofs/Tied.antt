@@ -1,5 +1,8 @@
 -- The exports, as they are run, ensure their promises and ask for nothing: that is what is proved of each function, with its promise written out. A contract
 -- that says less, or that asks for something, is another statement than the one here.
+use contract.Running.{within}
+use prog.Routine.{Env}
+use prog.Wired.{Wired}
 use Rattle.meaning.specs.Functions.{Ensures}
 use Rattle.capi.specs.Tables.{ShxTable, ShxSymbolDegree, ShxArity, ShxPair}
 use Rattle.capi.specs.Terms.{ShxHeadingDegree, ShxSubterm, ShxNearer}
@@ -42,35 +45,35 @@ use Rattle.capi.proofs.heading.shx_marc_heading.Symbol as marc-heading-code
 use Rattle.capi.proofs.heading.shx_marc_heading.Met as marc-heading-proof
 
 -- THEOREM: each export ensures its promise
-pub table_ensures : {M : Type 1} → Ensures table.ended table-code.routine (λ κs a r s. ShxTable a.0.now r) M
-table_ensures = table-proof.met
+pub table_ensures : {M : Type 1} (γ : Env) → Wired γ table-code.code → Ensures table.ended (γ table-code.name) (λ κs a r s. ShxTable a.0.now r) M
+table_ensures γ wired 𝓤 𝓛 𝓜 𝓡 = table-proof.met 𝓤 𝓛 𝓜 (within 𝓤 𝓛.H 𝓜 𝓡 γ) wired
 
-pub symbol_degree_ensures : {M : Type 1} → Ensures symbol_degree_lem-is.ended symbol-degree-code.routine (λ κs a r s. ShxSymbolDegree a.0.now a.1.0 a.1.1.0 a.1.1.1.0.now r s.1.1.1.0.now) M
-symbol_degree_ensures = symbol-degree-proof.met
+pub symbol_degree_ensures : {M : Type 1} (γ : Env) → Wired γ symbol-degree-code.code → Ensures symbol_degree_lem-is.ended (γ symbol-degree-code.name) (λ κs a r s. ShxSymbolDegree a.0.now a.1.0 a.1.1.0 a.1.1.1.0.now r s.1.1.1.0.now) M
+symbol_degree_ensures γ wired 𝓤 𝓛 𝓜 𝓡 = symbol-degree-proof.met 𝓤 𝓛 𝓜 (within 𝓤 𝓛.H 𝓜 𝓡 γ) wired
 
-pub arity_ensures : {M : Type 1} → Ensures arity.ended arity-code.routine (λ κs a r s. ShxArity a.0.now a.1.0 a.1.1.0.now r s.1.1.0.now) M
-arity_ensures = arity-proof.met
+pub arity_ensures : {M : Type 1} (γ : Env) → Wired γ arity-code.code → Ensures arity.ended (γ arity-code.name) (λ κs a r s. ShxArity a.0.now a.1.0 a.1.1.0.now r s.1.1.0.now) M
+arity_ensures γ wired 𝓤 𝓛 𝓜 𝓡 = arity-proof.met 𝓤 𝓛 𝓜 (within 𝓤 𝓛.H 𝓜 𝓡 γ) wired
 
-pub pair_ensures : {M : Type 1} → Ensures pair.ended pair_code.routine (λ κs a r s. ShxPair a.0.now a.1.0 a.1.1.0.now a.1.1.1.0.now a.1.1.1.1.0.now r s.1.1.0.now s.1.1.1.0.now s.1.1.1.1.0.now) M
-pair_ensures = pair-proof.met
+pub pair_ensures : {M : Type 1} (γ : Env) → Wired γ pair_code.code → Ensures pair.ended (γ pair_code.name) (λ κs a r s. ShxPair a.0.now a.1.0 a.1.1.0.now a.1.1.1.0.now a.1.1.1.1.0.now r s.1.1.0.now s.1.1.1.0.now s.1.1.1.1.0.now) M
+pair_ensures γ wired 𝓤 𝓛 𝓜 𝓡 = pair-proof.met 𝓤 𝓛 𝓜 (within 𝓤 𝓛.H 𝓜 𝓡 γ) wired
 
-pub heading_degree_ensures : {M : Type 1} → Ensures heading_degree_lem.ended heading-degree-code.routine (λ κs a r s. ShxHeadingDegree a.0.now a.1.0.now a.1.1.0.now a.1.1.1.0.now r s.1.1.1.0.now) M
-heading_degree_ensures = heading-degree-proof.met
+pub heading_degree_ensures : {M : Type 1} (γ : Env) → Wired γ heading-degree-code.code → Ensures heading_degree_lem.ended (γ heading-degree-code.name) (λ κs a r s. ShxHeadingDegree a.0.now a.1.0.now a.1.1.0.now a.1.1.1.0.now r s.1.1.1.0.now) M
+heading_degree_ensures γ wired 𝓤 𝓛 𝓜 𝓡 = heading-degree-proof.met 𝓤 𝓛 𝓜 (within 𝓤 𝓛.H 𝓜 𝓡 γ) wired
 
-pub subterm_ensures : {M : Type 1} → Ensures subterm.ended subterm-code.routine (λ κs a r s. ShxSubterm a.0.now a.1.0.now a.1.1.0 r) M
-subterm_ensures = subterm-proof.met
+pub subterm_ensures : {M : Type 1} (γ : Env) → Wired γ subterm-code.code → Ensures subterm.ended (γ subterm-code.name) (λ κs a r s. ShxSubterm a.0.now a.1.0.now a.1.1.0 r) M
+subterm_ensures γ wired 𝓤 𝓛 𝓜 𝓡 = subterm-proof.met 𝓤 𝓛 𝓜 (within 𝓤 𝓛.H 𝓜 𝓡 γ) wired
 
-pub nearer_ensures : {M : Type 1} → Ensures nearer.ended nearer-code.routine (λ κs a r s. ShxNearer a.0.now a.1.0.now a.1.1.0.now a.1.1.1.0.now r) M
-nearer_ensures = nearer-proof.met
+pub nearer_ensures : {M : Type 1} (γ : Env) → Wired γ nearer-code.code → Ensures nearer.ended (γ nearer-code.name) (λ κs a r s. ShxNearer a.0.now a.1.0.now a.1.1.0.now a.1.1.1.0.now r) M
+nearer_ensures γ wired 𝓤 𝓛 𝓜 𝓡 = nearer-proof.met 𝓤 𝓛 𝓜 (within 𝓤 𝓛.H 𝓜 𝓡 γ) wired
 
-pub match_ensures : {M : Type 1} → Ensures match.ended match-code.routine (λ κs a r s. ShxMatch a.0.now a.1.0.now a.1.1.0.now a.1.1.1.0 a.1.1.1.1.0.now a.1.1.1.1.1.0.now r s.1.1.1.1.0.now s.1.1.1.1.1.0.now s.1.1.1.1.1.1.0.now s.1.1.1.1.1.1.1.0.now) M
-match_ensures = match-proof.met
+pub match_ensures : {M : Type 1} (γ : Env) → Wired γ match-code.code → Ensures match.ended (γ match-code.name) (λ κs a r s. ShxMatch a.0.now a.1.0.now a.1.1.0.now a.1.1.1.0 a.1.1.1.1.0.now a.1.1.1.1.1.0.now r s.1.1.1.1.0.now s.1.1.1.1.1.0.now s.1.1.1.1.1.1.0.now s.1.1.1.1.1.1.1.0.now) M
+match_ensures γ wired 𝓤 𝓛 𝓜 𝓡 = match-proof.met 𝓤 𝓛 𝓜 (within 𝓤 𝓛.H 𝓜 𝓡 γ) wired
 
-pub write_table_ensures : {M : Type 1} → Ensures write_table_lem-is.ended write-table-code.routine (λ κs a r s. ShxWriteTable a.0.now a.1.0.now a.1.1.0.now a.1.1.1.0.now r s.1.1.0.now s.1.1.1.0.now) M
-write_table_ensures = write-table-proof.met
+pub write_table_ensures : {M : Type 1} (γ : Env) → Wired γ write-table-code.code → Ensures write_table_lem-is.ended (γ write-table-code.name) (λ κs a r s. ShxWriteTable a.0.now a.1.0.now a.1.1.0.now a.1.1.1.0.now r s.1.1.0.now s.1.1.1.0.now) M
+write_table_ensures γ wired 𝓤 𝓛 𝓜 𝓡 = write-table-proof.met 𝓤 𝓛 𝓜 (within 𝓤 𝓛.H 𝓜 𝓡 γ) wired
 
-pub widen_ensures : {M : Type 1} → Ensures widen.ended widen-code.routine (λ κs a r s. ShxWiden a.0.now a.1.0.now a.1.1.0.now r s.1.0.now s.1.1.0.now) M
-widen_ensures = widen-proof.met
+pub widen_ensures : {M : Type 1} (γ : Env) → Wired γ widen-code.code → Ensures widen.ended (γ widen-code.name) (λ κs a r s. ShxWiden a.0.now a.1.0.now a.1.1.0.now r s.1.0.now s.1.1.0.now) M
+widen_ensures γ wired 𝓤 𝓛 𝓜 𝓡 = widen-proof.met 𝓤 𝓛 𝓜 (within 𝓤 𝓛.H 𝓜 𝓡 γ) wired
 
-pub marc_heading_ensures : {M : Type 1} → Ensures marc_heading_lem.ended marc-heading-code.routine (λ κs a r s. ShxMarcHeading a.0.now a.1.0.now a.1.1.0.now a.1.1.1.0.now a.1.1.1.1.0 a.1.1.1.1.1.0 a.1.1.1.1.1.1.0.now r s.1.1.1.1.1.1.0.now) M
-marc_heading_ensures = marc-heading-proof.met
+pub marc_heading_ensures : {M : Type 1} (γ : Env) → Wired γ marc-heading-code.code → Ensures marc_heading_lem.ended (γ marc-heading-code.name) (λ κs a r s. ShxMarcHeading a.0.now a.1.0.now a.1.1.0.now a.1.1.1.0.now a.1.1.1.1.0 a.1.1.1.1.1.0 a.1.1.1.1.1.1.0.now r s.1.1.1.1.1.1.0.now) M
+marc_heading_ensures γ wired 𝓤 𝓛 𝓜 𝓡 = marc-heading-proof.met 𝓤 𝓛 𝓜 (within 𝓤 𝓛.H 𝓜 𝓡 γ) wired
