@@ -1,8 +1,7 @@
 -- The digits are as many as the number has, at most twenty, and spelt as the meaning has them.
-use mathlib.Core.Path.{sym, ◌∙◌}
+use mathlib.Core.Path.{◌∙◌}
 use Prim.Native.Nat.{◌≤◌}
 use native.Mathlib.Omega.{arith}
-use lib.Seq.{length-take-le}
 use Rattle.output.proofs.Digits.{few_digits, same_digits}
 use Rattle.output.proofs.Titles.{put_same}
 use Rattle.output.proofs.long.put_long.Goals as goal
