@@ -1,5 +1,4 @@
 -- Memory as it is before anything is written: it has room for what a table asks for, and no near set is gathered in it.
-use mathlib.Core.Path.{◌≡◌}
 use mathlib.Core.List.{List}
 use mathlib.Core.Bool.{Bool, true, false, cond}
 use Prim.Native.Nat.{ℕ, ◌+◌, ◌*◌, ◌≤◌}
