@@ -1,15 +1,13 @@
 -- The digits that were passed are those of the value; the tests are those of the laws.
 use mathlib.Core.Path.{◌≡◌, sym, ◌∙◌}
-use mathlib.Core.Logic.{⊎_elim}
 use mathlib.Core.Bool.{false}
-use Prim.Native.Nat.{◌<◌}
 use native.Mathlib.Omega.{arith}
 use lib.ListN.{get_or}
 use Rattle.marc.specs.Frame.{is_digit_lem}
 use Rattle.marc.proofs.Numerals.{Digit}
 use Rattle.list_file.proofs.Numbers.{passing_none, never_ended, value_ended, no_digit, leading_zero, too_high, passing_on}
 use Rattle.list_file.proofs.numeral.read_number.Goals as goal
-use Rattle.list_file.proofs.numeral.read_number.Goals.{Else-not-is_digit, Joined-else-value-eq0, Then-not-is_digit}
+use Rattle.list_file.proofs.numeral.read_number.Goals.{Else-not-is_digit, Then-not-is_digit}
 
 pub loop-i-init : goal.loop-i-init
 loop-i-init c = passing_none c.args.file.now c.args.at c.requires
@@ -21,10 +19,6 @@ other c = sym c.is_digit.ensures ∙ c.if-not-is_digit.true
 -- the byte is a digit
 digit : (c : goal.Else-not-is_digit) → Digit (get_or c.args.file.now c.loop-i.i 0)
 digit c = sym c.is_digit.ensures ∙ c.if-not-is_digit.false
-
--- no digit 0 stands before it
-unled : (c : goal.Joined-else-value-eq0) → c.args.at < c.loop-i.i → c.loop-i.value ≡ 0 → ⊥
-unled c l e = ⊎_elim (λ w. omega (arith, l, w.1)) (λ never. never e) c.else-value-eq0.either
 
 pub returns-then-i-at : goal.returns-then-i-at
 returns-then-i-at c =
@@ -39,7 +33,7 @@ returns-then-not-is_digit c =
 pub returns-then-i-at-2 : goal.returns-then-i-at-2
 returns-then-i-at-2 c =
     let loop = c.loop-i in
-    leading_zero _ _ _ _ loop.invariant c.loop-i-test.true (digit (goal.at.returns-then-i-at-2 c).Else-not-is_digit) c.if-value-eq0.true c.if-i-at-2.true
+    leading_zero _ _ _ _ loop.invariant c.loop-i-test.true (digit (goal.at.returns-then-i-at-2 c).Else-not-is_digit) (omega arith) c.if-i-at-2.true
 
 pub digit-requires : goal.digit-requires
 digit-requires c = digit (goal.at.digit-requires c).Else-not-is_digit
@@ -52,7 +46,7 @@ returns-then-value-gt-MOST c =
 pub loop-i-preserved : goal.loop-i-preserved
 loop-i-preserved c =
     let loop = c.loop-i in
-    passing_on _ _ _ _ loop.invariant c.loop-i-test.true (digit (goal.at.loop-i-preserved c).Else-not-is_digit) _ c.digit.ensures.0 (unled (goal.at.loop-i-preserved c).Joined-else-value-eq0) c.if-value-gt-MOST.false
+    passing_on _ _ _ _ loop.invariant c.loop-i-test.true (digit (goal.at.loop-i-preserved c).Else-not-is_digit) _ c.digit.ensures.0 (λ l e. omega (arith, l, e)) c.if-value-gt-MOST.false
 
 pub returns : goal.returns
 returns c = never_ended _ _ _ _ c.loop-i.invariant c.loop-i-test.false
