@@ -97,7 +97,7 @@ answer_of code a = cond (eqb code 0) (gives a) (refused (code % 65536) (code / 6
 
 -- Part of a list that was lent, so many nodes from `start` on. A node has two bytes.
 abbrev pub part_from : Nodes → ℕ → ℕ → Nodes
-part_from list start count = record { ref_ptr = (list.ref_ptr.0, list.ref_ptr.1 + 2 * start); ghost_name = list.ghost_name; now = take count (drop start list.now) }
+part_from list start count = record { ref_ptr = (list.ref_ptr.0, list.ref_ptr.1 + 2 * start); now = take count (drop start list.now) }
 
 -- A subterm by its number of nodes: they stand from the index on; no nodes are the part of none where the list begins.
 abbrev pub subterm_of : Nodes → ℕ → ℕ → Nodes
