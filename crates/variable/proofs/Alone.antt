@@ -1,6 +1,6 @@
 -- A variable that one term faces: at each position its set is the near set of the symbol there, so that the lowest degree is the one kept with that
 -- set, and the highest is 1000, that of the symbol with itself.
-use mathlib.Core.Path.{◌≡◌, refl, sym as inv, ap, ◌∙◌}
+use mathlib.Core.Path.{◌≡◌, refl, sym as inv, ap, ap₂, ◌∙◌}
 use mathlib.Core.List.{List, [], ◌∷◌}
 use mathlib.Core.Bool.{true, ◌&&◌, cond}
 use Prim.Native.Nat.{ℕ, ◌+◌, ◌-◌, ◌≤◌, ◌<◌}
@@ -18,8 +18,10 @@ use Rattle.theory.proofs.Gathered.{at_node}
 use Rattle.theory.proofs.Lemmas.{le_highest, and_true}
 use Rattle.meaning.proofs.Rated.{highest_at_top}
 use Rattle.near.specs.Near.{kept, is_near}
-use Rattle.positions.specs.Position.{Covers, NearOf}
+use Rattle.positions.specs.Position.{note_count, Within, Covers, NearOf}
 use Rattle.positions.proofs.Members.{lowest-same}
+use Rattle.variable.specs.Variable.{PackedAlone, VariablePacked}
+use Rattle.variable.specs.declared.Found.{Found}
 
 -- ---- the part of the heading that a note tells of
 
@@ -91,3 +93,14 @@ module _ {T : Table} {cut : ℕ} {near nodes : List ℕ} (known : NearOf T cut n
       let in_set_lem = inv (set_alone symbol) ∙ itself_near in
       let most : f symbol ≡ 1000 = rw in_set_lem (shares symbol ∙ itself) in
       omega (arith, le_highest T.size f symbol (known.symbols k l), highest_at_top T cut (t ∷ []) k)
+
+-- LAW: so a variable with one note is packed by the part of the heading that the note tells of
+pub one_packed : (T : Table) (near heading notes : List ℕ) (start size : ℕ) (before after : List ℕ) (r : Found) → (start ≡ start_of notes 0) × (size ≡ size_of notes 0)
+    → Within heading notes → note_count notes ≡ 1 → PackedAlone near (take (start + size - start) (drop start heading)) before after r
+    → VariablePacked T near heading notes before after r
+one_packed T near heading notes start size before after r note within only alone ts g cut known =
+    let one = one_term ts g only in
+    let size_is : start + size - start ≡ size_of notes 0 = omega (arith, note) in
+    let inside : start + (start + size - start) ≤ length heading = omega (arith, within 0 (omega arith), note) in
+    let writes = ap₂ (λ (n s : ℕ). take n (drop s heading)) size_is note.0 ∙ one.2.is in
+    rw one.1 (alone T one.0 writes cut (part_near heading start (start + size - start) inside known))

@@ -1,7 +1,8 @@
 // All positions of one variable.
 #![tactic(auto)]
 
-ghost use Rattle.std.specs.Prelude.{ℕ, ◌*◌, ◌<◌, ◌≤◌, length, get_or};
+ghost use Rattle.std.specs.Prelude.{◌≡◌, ℕ, ◌*◌, ◌<◌, ◌≤◌, length, get_or};
+ghost use Rattle.theory.specs.Table.{Table};
 ghost use Rattle.theory.specs.Stands.{size_of};
 ghost use Rattle.meaning.specs.Limits.{set_words_lem};
 ghost use Rattle.meaning.specs.File.{table_in};
@@ -46,6 +47,18 @@ fn pack_alone(near: &[u64], term: &[u16], sets: &mut [u64]) -> Found
         lowest,
         highest: 1000,
     }
+}
+
+// Packs the sets of a variable that has one note, by the part of the heading that the note tells of.
+fn pack_one(near: &[u64], heading: &[u16], notes: &[u16], sets: &mut [u64]) -> Found
+    requires one_note { (note_count notes.now ≡ 1) × Within heading.now notes.now × Covers heading.now near.now }
+    requires notes_in_bounds { set_words_lem * size_of notes.now 0 ≤ length sets.old }
+    ensures { (T : Table) → VariablePacked T near.now heading.now notes.now sets.old sets.new result }
+{
+    let note = note_at(notes, 0);
+    let start = note.start as usize;
+    let end = start + note.size as usize;
+    pack_alone(near, &heading[start..end], sets)
 }
 
 // Packs the sets of a variable that several subterms face.
@@ -105,10 +118,7 @@ pub fn pack_variable(
     ensures variable_packed { VariablePacked (table_in table.now) near.now heading.now notes.now sets.old sets.new result }
 {
     if notes.len() / 2 == 1 {
-        let note = note_at(notes, 0);
-        let start = note.start as usize;
-        let end = start + note.size as usize;
-        return pack_alone(near, &heading[start..end], sets);
+        return pack_one(near, heading, notes, sets);
     }
     pack_shared(table, near, index, heading, notes, sets)
 }
