@@ -2,7 +2,7 @@
 use mathlib.Core.Path.{◌≡◌, ap, ◌∙◌}
 use mathlib.Core.List.{List, ◌++◌, append_assoc}
 use Prim.Native.Nat.{ℕ, ◌+◌}
-use Rattle.input.specs.Coming.{Coming, question, too_long_lem, whole, over_long, Comes, behind}
+use Rattle.input.specs.Coming.{Coming, question, too_long_lem, cut_off_lem, ended, whole, over_long, Comes, behind}
 use Rattle.replay.specs.Batches.{turn_text, GoesOn, Begins, none, further}
 
 module _ (more : List ℕ) where
@@ -23,6 +23,8 @@ module _ (more : List ℕ) where
   unfolding turn_text
   further_more k bytes rest left text (question asked then) b c e = further b (asked_more rest asked then c) (ap (λ s. s ++ more) e)
   further_more k bytes rest left text (too_long_lem then) b c e = further b (long_more rest then c) (ap (λ s. s ++ more) e)
+  further_more k bytes rest left text cut_off_lem b c never = elim never [ ]
+  further_more k bytes rest left text ended b c never = elim never [ ]
 
   -- LAW
   pub begun_more : {k : ℕ} {bytes left text : List ℕ} → Begins k bytes left text → Begins k (bytes ++ more) (left ++ more) text

@@ -13,10 +13,14 @@ use Rattle.replay.specs.Batches.{turn_text, GoesOn, Stops, Begins, none, further
 goes_once : (next : Coming) (left left' : List ℕ) → GoesOn next left → GoesOn next left' → left ≡ left'
 goes_once (question asked rest) left left' e e' = e ∙ sym e'
 goes_once (too_long_lem rest) left left' e e' = e ∙ sym e'
+goes_once cut_off_lem left left' never e' = elim never [ ]
+goes_once ended left left' never e' = elim never [ ]
 
 goes_or_stops : (next : Coming) (left : List ℕ) → GoesOn next left → Stops next → ⊥
 goes_or_stops (question asked rest) left e never = never
 goes_or_stops (too_long_lem rest) left e never = never
+goes_or_stops cut_off_lem left never s = elim never [ ]
+goes_or_stops ended left never s = elim never [ ]
 
 same_next : (rest rest' : List ℕ) (next next' : Coming) → rest ≡ rest' → Comes rest next → Comes rest' next' → next ≡ next'
 same_next rest rest' next next' e c c' = comes_once rest next next' c (subst (λ s. Comes s next') (sym e) c')
@@ -65,6 +69,8 @@ shorter bytes four rest front left e k f = omega (arith, ap length e, length-app
 less_left : (bytes : List ℕ) (next : Coming) (left : List ℕ) → Comes bytes next → GoesOn next left → length left < length bytes
 less_left bytes (question asked then) left (behind four rest e k (whole f l s)) g = omega (arith, ap length g, shorter bytes four rest asked then e k f)
 less_left bytes (too_long_lem then) left (behind four rest e k (over_long passed f l s)) g = omega (arith, ap length g, shorter bytes four rest passed then e k f)
+less_left bytes cut_off_lem left c never = elim never [ ]
+less_left bytes ended left c never = elim never [ ]
 
 module _ (bytes : List ℕ) where
   -- what comes next is the last, or there is less to go on with
