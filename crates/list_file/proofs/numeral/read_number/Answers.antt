@@ -41,7 +41,7 @@ digit-requires c = digit (goal.at.digit-requires c).Else-not-is_digit
 pub returns-then-value-gt-MOST : goal.returns-then-value-gt-MOST
 returns-then-value-gt-MOST c =
     let loop = c.loop-i in
-    too_high _ _ _ _ loop.invariant c.loop-i-test.true (digit (goal.at.returns-then-value-gt-MOST c).Else-not-is_digit) _ c.digit.ensures.0 c.if-value-gt-MOST.true
+    too_high _ _ _ _ loop.invariant c.loop-i-test.true (digit (goal.at.returns-then-value-gt-MOST c).Else-not-is_digit) _ c.digit.ensures.0 (omega (arith, c.if-value-gt-MOST.true))
 
 pub loop-i-preserved : goal.loop-i-preserved
 loop-i-preserved c =

@@ -47,7 +47,7 @@ loop-mark-smaller c =
     let fill = c.fill-now in
     fewer_left loop.buffer loop.now fill.result fill.new.buffer
     (not-true _ c.if-not-now.true)
-    c.if-now-le-MOST_BYTES.true
+    (omega (arith, c.if-now-le-MOST_BYTES.true))
     fill.ensures
 
 pub loop-mark-preserved : goal.loop-mark-preserved
