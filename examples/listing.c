@@ -11,12 +11,6 @@
  *     tools/library
  *     cc -std=c11 -Wall -Wextra -Iinclude examples/listing.c target/staticlib/libcapi.a -o target/listing
  *     target/listing
- *
- * On Arm, where the library is for x86-64 all the same (Debian packages gcc-x86-64-linux-gnu, libc6-dev-amd64-cross and qemu-user):
- *
- *     tools/library
- *     x86_64-linux-gnu-gcc -static -std=c11 -Wall -Wextra -Iinclude examples/listing.c target/staticlib/libcapi.a -o target/listing
- *     qemu-x86_64 target/listing
  */
 #include <stdio.h>
 

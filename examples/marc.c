@@ -2,7 +2,7 @@
  * Reads one exchange record from standard input and prints its heading by a list of four known strings: symbol 0 with the numbers of the name and
  * the dates, 9 where there are no dates.
  *
- * From the top of the repository, on x86-64 (on Arm as examples/listing.c says):
+ * From the top of the repository, on x86-64:
  *
  *     tools/library
  *     cc -std=c11 -Wall -Wextra -Iinclude examples/marc.c target/staticlib/libcapi.a -o target/marc

@@ -59,7 +59,7 @@
  * - Every pointer is aligned as its C type asks.
  * - What a call may write (all that is not const) overlaps nothing else that is lent to that call. Lists that are only read may overlap.
  * - Nothing else writes to what is lent while the call runs.
- * - The thread's stack has room: 104 KB for shx_match, whatever its table is, 50 KB for shx_write_table, however few its pairs are, 68 KB
+ * - The thread's stack has room: 104 KB for shx_match, whatever its table is, 52 KB for shx_write_table, however few its pairs are, 68 KB
  *   for shx_marc_heading with a list of more than 24 strings that do not rise, 3 KB for shx_heading_degree and shx_nearer, 1 KB for any other call.
  *
  * Beyond that nothing is asked: every table, list and number is accepted or refused as above. The calls keep nothing, allocate nothing and can run
