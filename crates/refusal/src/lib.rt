@@ -35,12 +35,11 @@ pub enum Refusal {
     Absent,
 }
 
-// What a match comes to.
+// What a match that is not refused says.
 #[derive(Clone, Copy)]
-pub enum Outcome {
-    // the lowest and the highest degree
-    Match(u16, u16),
-    Refused(Refusal),
+pub struct Degrees {
+    pub lowest: u16,
+    pub highest: u16,
 }
 
 impl Refusal {
