@@ -1,7 +1,8 @@
 // What is told on standard error where a read or a write has failed.
 #![tactic(auto)]
 
-ghost use Rattle.std.specs.Prelude.{◌≤◌, ◌+◌, length};
+ghost use Rattle.std.specs.Prelude.{◌≤◌, length};
+ghost use Rattle.telling.specs.declared.TheConstants.{ROOM};
 
 use std::fmt;
 use std::fmt::Write;
@@ -15,17 +16,17 @@ const ROOM: usize = 256;
 struct Words {
     bytes: [u8; ROOM],
     used: usize,
+    ghost inside: { used ≤ ROOM },
 }
 
 impl fmt::Write for Words {
     fn write_str(&mut self, text: &str) -> fmt::Result {
-        for byte in text.as_bytes() {
-            let at = self.used;
-            if at < ROOM {
-                self.bytes[at] = *byte;
-                self.used = at + 1;
-            }
-        }
+        let text = text.as_bytes();
+        let used = self.used;
+        let room = &mut self.bytes[used..];
+        let count = text.len().min(room.len());
+        room[..count].copy_from_slice(&text[..count]);
+        self.used = used + count;
         Ok(())
     }
 }
@@ -34,12 +35,10 @@ impl fmt::Write for Words {
 fn text_end(text: &[u8]) -> usize
     ensures { result ≤ length text.now }
 {
-    for i in 0..text.len() {
-        if text[i..].starts_with(b" (os error ") {
-            return i;
-        }
-    }
-    text.len()
+    let mark = b" (os error ".as_slice();
+    text.windows(mark.len())
+        .position(|part| part == mark)
+        .unwrap_or(text.len())
 }
 
 // Writes a line to standard error: what failed, a colon and the error's text.
@@ -52,11 +51,8 @@ pub fn fail(rt: HostRuntime, what: &[u8], why: Error) {
     let told = rt.stderr();
     let _ = told.write_all(what);
     let _ = told.write_all(b": ");
-    let used = words.used;
-    if used <= ROOM {
-        let text = &words.bytes[..used];
-        let end = text_end(text);
-        let _ = told.write_all(&text[..end]);
-    }
+    let text = &words.bytes[..words.used];
+    let end = text_end(text);
+    let _ = told.write_all(&text[..end]);
     let _ = told.write_all(b"\n");
 }
