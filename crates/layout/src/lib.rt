@@ -12,8 +12,7 @@ pub fn put_number(output: &mut [u8], at: usize, n: u16)
     requires { at + 2 ≤ length output.old }
     ensures { output.new ≡ over output.old at (bytes_of n) }
 {
-    output[at] = (n % 256) as u8;
-    output[at + 1] = (n / 256) as u8;
+    output[at..at + 2].copy_from_slice(&n.to_le_bytes());
 }
 
 pub fn put_header(output: &mut [u8], symbols: usize, pairs: usize)
@@ -22,23 +21,24 @@ pub fn put_header(output: &mut [u8], symbols: usize, pairs: usize)
 {
     let pairs_at = 10 + symbols;
     let total = pairs_at + 6 * pairs;
-    put_number(output, 0, symbols as u16);
-    put_number(output, 2, pairs as u16);
-    put_number(output, 4, 10);
-    put_number(output, 6, pairs_at as u16);
-    put_number(output, 8, total as u16);
+    put_numbers(
+        output,
+        0,
+        &[
+            symbols as u16,
+            pairs as u16,
+            10,
+            pairs_at as u16,
+            total as u16,
+        ],
+    );
 }
 
 pub fn put_arities(output: &mut [u8], arities: &[u8])
     requires { 10 + length arities.now ≤ length output.old }
     ensures { output.new ≡ over output.old 10 arities.now }
 {
-    let n = arities.len();
-    let mut i: usize = 0;
-    while i < n {
-        output[10 + i] = arities[i];
-        i += 1;
-    }
+    output[10..10 + arities.len()].copy_from_slice(arities);
 }
 
 // Every number, one behind the other from `at` on.
@@ -46,10 +46,7 @@ pub fn put_numbers(output: &mut [u8], at: usize, numbers: &[u16])
     requires { at + 2 * length numbers.now ≤ length output.old }
     ensures { output.new ≡ over output.old at (numbers_bytes numbers.now) }
 {
-    let n = numbers.len();
-    let mut i: usize = 0;
-    while i < n {
-        put_number(output, at + 2 * i, numbers[i]);
-        i += 1;
+    for (i, n) in numbers.iter().enumerate() {
+        put_number(output, at + 2 * i, *n);
     }
 }

@@ -1,12 +1,12 @@
--- The two stores, one behind the other, lay the two bytes over the output.
-use Prim.Native.Nat.{◌%◌, ◌/◌}
+-- What is copied is the number's two bytes, the low one first.
+use mathlib.Core.Path.{◌≡◌}
+use Prim.Native.Nat.{◌/◌, ◌%◌}
 use native.Mathlib.Omega.{arith}
-use lib.ListN.{length-set}
-use Rattle.meaning.proofs.Over.{over_two}
+use Rattle.meaning.specs.File.{bytes_of}
+use Rattle.layout.proofs.Bytes.{over_copied}
 use Rattle.layout.proofs.put_number.Goals as goal
 
-pub bounds-output-at-2 : goal.bounds-output-at-2
-bounds-output-at-2 c = simp length-set (omega arith)
-
 pub returns : goal.returns
-returns c = over_two c.args.output.now c.args.at (c.args.n % 256) (c.args.n / 256) c.requires
+returns c =
+    let high : c.args.n / 256 % 256 ≡ c.args.n / 256 = omega arith in
+    over_copied c.args.output.now c.args.at _ (bytes_of c.args.n) (cc) (omega arith)
