@@ -1,4 +1,5 @@
 -- Laws that the proofs of functions cite, here and in the crates above.
+pub mod Places
 pub mod Rising
 pub mod Pairs
 pub mod Runs

@@ -18,14 +18,14 @@ pub const LANES: usize = 3 * RUN;
 fn above(a: u16, b: u16) -> u16
     ensures { result ≡ 0 → a ≤ b }
 {
-    if a > b { a - b } else { 0 }
+    a.saturating_sub(b)
 }
 
 // One less than a number; of 0 the highest there is, so that what 1 to a limit may not be is above the limit, 0 too.
 fn one_less(n: u16) -> u16
     ensures { result < 65535 → result + 1 ≡ n }
 {
-    if n > 0 { n - 1 } else { 65535 }
+    n.wrapping_sub(1)
 }
 
 // A fault that counts only where it is asked for.

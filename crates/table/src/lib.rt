@@ -5,3 +5,4 @@ pub mod lanes;
 pub mod number;
 pub mod read;
 pub mod rules;
+pub mod sound_table;

@@ -12,11 +12,8 @@ pub const MOST_SYMBOLS: usize = SymbolSet::ROOM as usize;
 
 pub const MOST_PAIRS: usize = 8192;
 
-#[derive(Clone, Copy)]
-pub enum Place {
-    At(usize),
-    Nowhere,
-}
+// A symbol takes no more arguments than this.
+const MOST_ARGUMENTS: u8 = 8;
 
 // Whether a table may have so many symbols and pairs.
 pub fn allowed(symbols: usize, pairs: usize) -> bool
@@ -32,18 +29,10 @@ pub fn allowed(symbols: usize, pairs: usize) -> bool
 }
 
 // The first symbol whose arity is too high.
-pub fn high_arity(arities: &[u8]) -> Place
+pub fn high_arity(arities: &[u8]) -> Option<usize>
     ensures { row3 arities.now ≡ row 3 (place_in result) }
 {
-    let n = arities.len();
-    let mut k: usize = 0;
-    while k < n {
-        if arities[k] > 8 {
-            return Place::At(k);
-        }
-        k += 1;
-    }
-    Place::Nowhere
+    arities.iter().position(|arity| *arity > MOST_ARGUMENTS)
 }
 
 // Two symbols as one number, by which pairs rise.
