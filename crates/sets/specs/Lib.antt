@@ -1,2 +1,3 @@
--- Names that laws and proofs use of sets as words. What a member is stands in the crate meaning.
+-- Names that contracts, laws and proofs use of sets as words. What a member is stands in the crate meaning.
 pub mod Words
+pub mod Members

@@ -47,11 +47,10 @@ impl SymbolSet {
     pub fn intersect(self, other: SymbolSet) -> SymbolSet
         ensures { (k : ℕ) → member result.words k ≡ (member self.words k && member other.words k) }
     {
-        let ours = self.words;
-        let theirs = other.words;
-        let mut words = [0u64; SymbolSet::WORDS];
-        for i in 0..SymbolSet::WORDS {
-            words[i] = ours[i] & theirs[i];
+        let mut words = self.words;
+        let others = other.words;
+        for (i, word) in words.iter_mut().enumerate() {
+            *word &= others[i];
         }
         SymbolSet { words }
     }
@@ -62,9 +61,7 @@ impl SymbolSet {
         ensures { (w : ℕ) → w < set_words_lem → get_or result.words w 0 ≡ get_or list.now (at + w) 0 }
     {
         let mut words = [0u64; SymbolSet::WORDS];
-        for j in 0..SymbolSet::WORDS {
-            words[j] = list[at + j];
-        }
+        words.copy_from_slice(&list[at..at + SymbolSet::WORDS]);
         SymbolSet { words }
     }
 
@@ -73,9 +70,18 @@ impl SymbolSet {
         requires { at + set_words_lem ≤ length list.old }
         ensures { list.new ≡ over list.old at self.words }
     {
-        let words = self.words;
-        for w in 0..SymbolSet::WORDS {
-            list[at + w] = words[w];
+        list[at..at + SymbolSet::WORDS].copy_from_slice(&self.words);
+    }
+
+    // The symbols of the set that are below `end`, rising. The words are lent, so that a loop over the symbols copies none.
+    pub fn members(&self, end: u16) -> Members<'_>
+        requires { end ≤ set_room }
+        ensures { (result.words.now ≡ self.now.words) × (result.from ≡ 0) × (result.end ≡ end) }
+    {
+        Members {
+            words: &self.words,
+            from: 0,
+            end,
         }
     }
 
@@ -83,13 +89,7 @@ impl SymbolSet {
     pub fn is_empty(self) -> bool
         ensures { (result ≡ true) ↔ ((k : ℕ) → member self.words k ≡ false) }
     {
-        let words = self.words;
-        for at in 0..SymbolSet::WORDS {
-            if words[at] != 0 {
-                return false;
-            }
-        }
-        true
+        self.words == [0u64; SymbolSet::WORDS]
     }
 }
 
@@ -99,7 +99,35 @@ pub fn insert(words: &mut [u64], k: u16)
     ensures { (j : ℕ) → member words.new j ≡ (member words.old j || eqb j k) }
 {
     let at = (k / SymbolSet::BITS) as usize;
-    words[at] = words[at] | 1u64 << (k % SymbolSet::BITS);
+    words[at] |= 1u64 << (k % SymbolSet::BITS);
+}
+
+// The symbols of a set that are not below `from` and below `end`, rising.
+#[derive(Clone, Copy)]
+pub struct Members<'a> {
+    words: &'a [u64; SymbolSet::WORDS],
+    from: u16,
+    end: u16,
+    ghost in_room: { (from ≤ set_room) × (end ≤ set_room) },
+}
+
+impl<'a> Iterator for Members<'a> {
+    ghost use Rattle.sets.specs.Members.{GivesLeast, at_most_left};
+
+    type Item = u16;
+
+    ghost next_gives = { GivesLeast };
+
+    ghost remaining = { at_most_left };
+
+    fn next(&mut self) -> Option<u16> {
+        let k = next_member(self.words, self.from, self.end);
+        if k >= self.end {
+            return None;
+        }
+        self.from = k + 1;
+        Some(k)
+    }
 }
 
 // The least symbol of a set that is not below `from`, or some number that is not below `end` where none is below that. Words past the end

@@ -1,27 +1,15 @@
--- A word that is not zero has a bit, which is a member; and a set whose words are all zero has none.
-use borrow.Author.Rules.{rules}
-use borrow.Author.Count.{below_none, below_more}
-use mathlib.Core.Path.{refl}
-use mathlib.Core.Bool.{false≢true}
-use native.Mathlib.Omega.{arith}
+-- The set has no symbol just where its words are those of the set of none, since words follow from their members.
+use Rattle.std.proofs.Common.{rules, List, ℕ, ap, ◌∙◌}
+use Rattle.std.proofs.lemmas.Bool.Decides.{Decides-eqb}
+use Rattle.std.proofs.lemmas.Slice.Eq.{slice_eq-Decides}
 use Rattle.meaning.specs.Limits.{set_words_lem}
-use Rattle.sets.proofs.Laws.{words_of, no_member, empty_word}
+use Rattle.meaning.specs.Buffers.{member}
+use Rattle.sets.proofs.Laws.{words_of, member-zeros, empty_image}
 use Rattle.sets.proofs.SymbolSet.is_empty.Goals as goal
 
-pub loop-at-init : goal.loop-at-init
-loop-at-init c = (omega arith, below_none _)
-
-pub returns-then-words-at-ne0 : goal.returns-then-words-at-ne0
-returns-then-words-at-ne0 c = (
-  λ e. absurd (false≢true e),
-  λ h. absurd (c.if-words-at-ne0.true (empty_word set_words_lem _ (search (rules, words_of)) h _)),
-)
-
-pub loop-at-preserved : goal.loop-at-preserved
-loop-at-preserved c = (omega arith, below_more _ _ c.loop-at.invariant.1 c.if-words-at-ne0.false)
-
 pub returns : goal.returns
-returns c = (
-  λ e. no_member set_words_lem _ (search rules) (λ j l. c.loop-at.invariant.1 j (omega arith)),
-  λ h. refl,
-)
+returns c =
+    let decides = slice_eq-Decides Decides-eqb _ _ _ c.eq.ensures in (
+      λ e k. ap (λ (ws : List ℕ). member ws k) (decides.0 e) ∙ member-zeros set_words_lem k,
+      λ h. decides.1 (empty_image set_words_lem _ (search (rules, words_of)) h),
+    )
