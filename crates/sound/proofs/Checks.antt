@@ -3,6 +3,7 @@ use mathlib.Core.Path.{◌≡◌, sym, ap, ◌∙◌}
 use mathlib.Core.List.{List, ◌++◌}
 use mathlib.Core.Option.{some as just}
 use Prim.Native.Nat.{ℕ}
+use Rattle.std.specs.Prelude.{Result, Ok, Err}
 use Rattle.meaning.specs.Refusals.{Refusal as Given, refusal, Row, first, table_rows, SoundFile}
 use Rattle.meaning.specs.Calls.{unless}
 use Rattle.meaning.proofs.Compose.{first_stays}
@@ -10,14 +11,12 @@ use Rattle.refusal.specs.declared.Refusal.{Refusal}
 use Rattle.refusal.specs.Told.{told, refused_by}
 use Rattle.refusal.proofs.One.{unless-told}
 use Rattle.sound.specs.Found.{found}
-use Rattle.sound.specs.declared.Checked.{Checked}
-use Rattle.sound.specs.declared.Checked.TheVariants.{Sound, Refused}
 
-module _ (table : List ℕ) (r : Checked) (e : found r ≡ first (table_rows table)) where
-  pub sound_by : r ≡ Sound → SoundFile table
-  sound_by q = sym e ∙ ap found q
+module _ {A : Type 0} (table : List ℕ) (r : Result A Refusal) (e : found r ≡ first (table_rows table)) where
+  pub sound_by : (a : A) → r ≡ Ok a → SoundFile table
+  sound_by a q = sym e ∙ ap found q
 
-  pub refused_by_lem : (why : Refusal) → r ≡ Refused why → first (table_rows table) ≡ just (told why)
+  pub refused_by_lem : (why : Refusal) → r ≡ Err why → first (table_rows table) ≡ just (told why)
   refused_by_lem why q = sym e ∙ ap found q
 
 -- LAW: a refusal given by the first rows is given by all

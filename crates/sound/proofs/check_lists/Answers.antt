@@ -8,8 +8,7 @@ use Rattle.meaning.specs.File.{symbol_count_lem, arities_in, pairs_in}
 use Rattle.meaning.specs.Refusals.{row, row3, row4, first}
 use Rattle.meaning.proofs.Sound.{length-pairs_in}
 use Rattle.table.specs.Places.{place_in}
-use Rattle.table.specs.declared.rules.Place.{Place}
-use Rattle.table.specs.declared.rules.Place.TheVariants.{At, Nowhere}
+use Rattle.std.specs.Prelude.{Option, Some, None}
 use Rattle.meaning.proofs.Sound.{length_arities}
 use Rattle.table.proofs.Pairs.{arities_part, number_small}
 use Rattle.table.proofs.Rows.{row3_inside, row4_inside}
@@ -17,34 +16,34 @@ use Rattle.sound.proofs.check_lists.Goals as goal
 
 -- row 3 once the arities are looked at, row 4 once the pairs are, where that has found this
 module _ (file : List ℕ) (symbols : ℕ) (counted : symbols ≡ symbol_count_lem file) where
-  arities_say : (r place : Place) → row3 (take (10 + symbols - 10) (drop 10 file)) ≡ row 3 (place_in r) → r ≡ place → row3 (arities_in file) ≡ row 3 (place_in place)
+  arities_say : (r place : Option ℕ) → row3 (take (10 + symbols - 10) (drop 10 file)) ≡ row 3 (place_in r) → r ≡ place → row3 (arities_in file) ≡ row 3 (place_in place)
   arities_say r place e is = ap row3 (sym (arities_part file symbols counted)) ∙ e ∙ ap (λ r. row 3 (place_in r)) is
 
-pairs_say : (file : List ℕ) (r place : Place) → row4 (arities_in file) (pairs_in file) ≡ row 4 (place_in r) → r ≡ place → row4 (arities_in file) (pairs_in file) ≡ row 4 (place_in place)
+pairs_say : (file : List ℕ) (r place : Option ℕ) → row4 (arities_in file) (pairs_in file) ≡ row 4 (place_in r) → r ≡ place → row4 (arities_in file) (pairs_in file) ≡ row 4 (place_in place)
 pairs_say file r place e is = e ∙ ap (λ r. row 4 (place_in r)) is
 
 pub overflow_cast-result : goal.overflow_cast-result
 overflow_cast-result c =
     let f = c.args.file.now in
     let p = c.requires in
-    omega (arith, row3_inside (arities_in f) c.in-At.symbol (arities_say c.args.file.now c.args.symbols c.requires.0 _ (At _) c.high_arity.ensures c.in-At.is), length_arities f (omega arith), number_small c.args.file.now (λ j. (c.type_inv.file j).fits) 0)
+    omega (arith, row3_inside (arities_in f) c.in-Some.symbol (arities_say c.args.file.now c.args.symbols c.requires.0 _ (Some _) c.high_arity.ensures c.in-Some.is), length_arities f (omega arith), number_small c.args.file.now (λ j. (c.type_inv.file j).fits) 0)
 
 pub bad_pair-requires : goal.bad_pair-requires
 bad_pair-requires c =
     (arities_part c.args.file.now c.args.symbols c.requires.0, c.requires.1, omega arith)
 
-pub overflow_cast-result-in-At-bad_pair : goal.overflow_cast-result-in-At-bad_pair
-overflow_cast-result-in-At-bad_pair c =
+pub overflow_cast-result-in-Some-bad_pair : goal.overflow_cast-result-in-Some-bad_pair
+overflow_cast-result-in-Some-bad_pair c =
     let f = c.args.file.now in
-    omega (arith, row4_inside (arities_in f) (pairs_in f) c.in-At-bad_pair.pair (pairs_say c.args.file.now _ (At _) c.bad_pair.ensures c.in-At-bad_pair.is), length-pairs_in f, number_small c.args.file.now (λ j. (c.type_inv.file j).fits) 2)
+    omega (arith, row4_inside (arities_in f) (pairs_in f) c.in-Some-bad_pair.pair (pairs_say c.args.file.now _ (Some _) c.bad_pair.ensures c.in-Some-bad_pair.is), length-pairs_in f, number_small c.args.file.now (λ j. (c.type_inv.file j).fits) 2)
 
-pub returns-in-At : goal.returns-in-At
-returns-in-At c =
+pub returns-in-Some : goal.returns-in-Some
+returns-in-Some c =
     let f = c.args.file.now in
-    sym (ap (λ r. first (r ∷ row4 (arities_in f) (pairs_in f) ∷ [])) (arities_say c.args.file.now c.args.symbols c.requires.0 _ (At _) c.high_arity.ensures c.in-At.is))
+    sym (ap (λ r. first (r ∷ row4 (arities_in f) (pairs_in f) ∷ [])) (arities_say c.args.file.now c.args.symbols c.requires.0 _ (Some _) c.high_arity.ensures c.in-Some.is))
 
-pub returns-in-At-bad_pair : goal.returns-in-At-bad_pair
-returns-in-At-bad_pair c = rw (arities_say c.args.file.now c.args.symbols c.requires.0 _ Nowhere c.high_arity.ensures c.in-Nowhere.is, pairs_say c.args.file.now _ (At _) c.bad_pair.ensures c.in-At-bad_pair.is)
+pub returns-in-Some-bad_pair : goal.returns-in-Some-bad_pair
+returns-in-Some-bad_pair c = rw (arities_say c.args.file.now c.args.symbols c.requires.0 _ None c.high_arity.ensures c.in_default.is, pairs_say c.args.file.now _ (Some _) c.bad_pair.ensures c.in-Some-bad_pair.is)
 
-pub returns-in-Nowhere-bad_pair : goal.returns-in-Nowhere-bad_pair
-returns-in-Nowhere-bad_pair c = rw (arities_say c.args.file.now c.args.symbols c.requires.0 _ Nowhere c.high_arity.ensures c.in-Nowhere.is, c.bad_pair.ensures, c.in-Nowhere-bad_pair.is)
+pub returns : goal.returns
+returns c = rw (arities_say c.args.file.now c.args.symbols c.requires.0 _ None c.high_arity.ensures c.in_default.is, c.bad_pair.ensures, c.in_default-bad_pair.is)
