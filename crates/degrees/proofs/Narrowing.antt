@@ -133,15 +133,7 @@ module _ (file : List ℕ) (ok : SoundFile file) where
         go (yes s) = absurd (q.stops (omega arith) (ap (lower_at file) here ∙ s))
         go (no s) = omega (arith, none_before k row k is (omega arith) end (omega (arith, p.onward, q.onward)) (omega arith), lowers end j a m)
 
-    -- LAW: the row ends further on
-    pub row_goes_on : k < end
-    row_goes_on = go (dec_lt k end)
-      where
-        go : Dec (k < end) → k < end
-        go (yes v) = v
-        go (no v) = absurd (omega (arith, later k (omega arith) l))
-
-    -- LAW: .. and no row goes on behind its end
+    -- LAW: no row goes on behind its end
     pub parted_again : Parted file end
     parted_again i j a b m = go (dec_lt i k)
       where

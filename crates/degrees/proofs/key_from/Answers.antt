@@ -19,4 +19,4 @@ returns c =
     let lower = c.number_at-2 in
     let short : lower.result < 65536 = search rules in
     let short-2 : higher.result < 65536 = search rules in
-    turned c.key-both.result lower.result higher.result c.key-both.ensures short short-2 ∙ ap₂ key_of lower.ensures higher.ensures
+    c.rotate_left.ensures ∙ turned c.key.result lower.result higher.result c.key.ensures short short-2 ∙ ap₂ key_of lower.ensures higher.ensures

@@ -5,7 +5,7 @@ use Rattle.degrees.specs.Sought.{key_at, Between}
 use Rattle.degrees.proofs.listed_between.Given as goal
 
 abbrev pub invariant-loop-low : goal.invariant-loop-low
-invariant-loop-low l = Between (key_at l.file) (pair_count_lem l.file) l.wanted l.low l.high
+invariant-loop-low l = Between (key_at l.table.file.now) (pair_count_lem l.table.file.now) l.wanted l.low l.high
 
 abbrev pub decreases-loop-low : goal.decreases-loop-low
 decreases-loop-low l = l.high - l.low
