@@ -1,10 +1,9 @@
--- What a writing says, in the meaning's words.
-use Rattle.std.specs.Prelude.{ℕ}
+-- What a writing says, in the meaning's words: how much was written, or why nothing was.
+use Rattle.std.specs.Prelude.{ℕ, Result, Ok, Err}
 use Rattle.meaning.specs.Calls.{Answer, gives}
+use Rattle.refusal.specs.declared.Refusal.{Refusal}
 use Rattle.refusal.specs.Told.{refused_by}
-use Rattle.writer.specs.declared.Writing.{Writing}
-use Rattle.writer.specs.declared.Writing.TheVariants.{Written, Refused}
 
-abbrev pub said : Writing → Answer ℕ
-said (Written n) = gives n
-said (Refused why) = refused_by why
+abbrev pub said : Result ℕ Refusal → Answer ℕ
+said (Ok n) = gives n
+said (Err why) = refused_by why
