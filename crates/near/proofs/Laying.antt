@@ -1,11 +1,10 @@
 -- Numbers that are laid over a list stand where they were laid, and elsewhere is what was there. So it is with the words of one symbol.
 use mathlib.Core.Path.{◌≡◌, refl, sym as inv, ap, ◌∙◌}
-use mathlib.Core.List.{List, [], ◌∷◌, ◌++◌, append_assoc}
+use mathlib.Core.List.{List, [], ◌∷◌, ◌++◌}
 use Prim.Native.Nat.{ℕ, suc, ◌+◌, ◌-◌, ◌*◌, ◌/◌, ◌%◌, ◌≤◌, ◌<◌}
 use native.Mathlib.Nat.{zero-add}
 use native.Mathlib.Decide.{dec_lt}
 use native.Mathlib.Omega.{arith}
-use borrow.Rule.Slice.PartMut.{put_mid, Post-is}
 use lib.ListN.{length, get_or, set, length-set, take, drop, length-append, get_or-append}
 use lib.Seq.{length-take-le, get_or-append-add, get_or-take, get_or-drop, set-append_left}
 use Rattle.meaning.specs.Limits.{word_bits, set_words_lem, set_room}
@@ -69,14 +68,6 @@ module _ (out : List ℕ) (at : ℕ) (xs : List ℕ) (room : at + length xs ≤ 
               ∙ get_or-append-add front behind (i - (at + length xs)) 0
               ∙ get_or-drop (at + length xs) out (i - (at + length xs)) 0
               ∙ ap (λ (n : ℕ). get_or out n 0) there
-
--- LAW: a part that was lent is back
-pub part_back : (out : List ℕ) (at n : ℕ) (xs : List ℕ) → length xs ≡ n → put_mid at (at + n - at) out xs ≡ over out at xs
-unfolding over
-part_back out at n xs e =
-    ap (λ (rest : List ℕ). take at out ++ (xs ++ rest)) (Post-is at (at + n) out (omega arith))
-    ∙ inv (append_assoc (take at out) xs (drop (at + n) out))
-    ∙ ap (λ (m : ℕ). (take at out ++ xs) ++ drop (at + m) out) (inv e)
 
 -- LAW: the words of h but the last tell what its set has
 pub words_hold : (near : List ℕ) (h : ℕ) (words : List ℕ) → ((w : ℕ) → w < set_words_lem → get_or words w 0 ≡ get_or near (near_words * h + w) 0)

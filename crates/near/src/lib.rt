@@ -1,17 +1,15 @@
 // The symbols near each symbol of a heading.
 #![tactic(auto)]
 
-ghost use Rattle.std.specs.Prelude.{◌≡◌, ℕ, ◌+◌, ◌-◌, ◌*◌, ◌<◌, ◌≤◌, max, length, get_or};
-ghost use Rattle.meaning.specs.Limits.{set_words_lem, set_room};
-ghost use Rattle.meaning.specs.File.{table_in};
-ghost use Rattle.meaning.specs.Refusals.{SoundFile};
-ghost use Rattle.meaning.specs.Over.{over};
-ghost use Rattle.meaning.specs.Calls.{zeros};
+ghost use Rattle.std.specs.Prelude.{◌≡◌, ℕ, ◌+◌, ◌-◌, ◌*◌, ◌<◌, ◌≤◌, length, get_or};
+ghost use Rattle.meaning.specs.Limits.{set_room};
+ghost use Rattle.table.specs.Sound.{table_of};
 ghost use Rattle.meaning.specs.Buffers.{member};
 ghost use Rattle.near.specs.Near.{near_words, in_row, kept, Fresh, Kept, NearSets, Ready, Alone, Opened, OwnJoined, Joined, PairJoined};
 
 use sets::SymbolSet;
-use table::read::{Pair, pair_count, pair_from, symbol_count};
+use table::read::Pair;
+use table::sound_table::SoundTable;
 
 // How many words a symbol has: its set, and a number that is kept with it.
 pub const NEAR_WORDS: usize = SymbolSet::WORDS + 1;
@@ -22,22 +20,11 @@ pub const NOT_GATHERED: u64 = 1;
 // What is kept with a set in which a symbol is alone. From here on the number says how far the lowest degree in the set is below the top.
 const ALONE: u64 = NOT_GATHERED + 1;
 
-// How many bytes of a file stand before the arities, one byte for each symbol, and how many bytes a pair has.
-const HEADER: usize = 10;
-
-const PAIR_BYTES: usize = 6;
-
 // The degree of a symbol with itself.
 const TOP: u64 = 1000;
 
 // What would be kept with a set in which a degree is 0; with a higher one it is as much less.
 const FARTHEST: u64 = ALONE + TOP;
-
-fn greater(a: u64, b: u64) -> u64
-    ensures { result ≡ max a b }
-{
-    if a < b { b } else { a }
-}
 
 // The set of a symbol h whose set is gathered.
 pub fn set_of(near: &[u64], h: u16) -> SymbolSet
@@ -55,16 +42,6 @@ pub fn lowest_of(near: &[u64], h: u16) -> u16
     (FARTHEST - near[NEAR_WORDS * h as usize + SymbolSet::WORDS]) as u16
 }
 
-// Empties the set whose words begin here.
-fn clear_set(near: &mut [u64], at: usize)
-    requires { at + set_words_lem ≤ length near.old }
-    ensures { near.new ≡ over near.old at (zeros set_words_lem) }
-{
-    for w in 0..SymbolSet::WORDS {
-        near[at + w] = 0;
-    }
-}
-
 // Begins the set of symbol h, unless that is gathered. Its words are written anew, so that whatever stood there is gone.
 fn open(near: &mut [u64], h: u16)
     requires { (near_words * (h + 1) ≤ length near.old) × (h < set_room) }
@@ -73,7 +50,7 @@ fn open(near: &mut [u64], h: u16)
     let at = NEAR_WORDS * h as usize;
     let last = at + SymbolSet::WORDS;
     if near[last] == NOT_GATHERED {
-        clear_set(near, at);
+        near[at..last].fill(0);
         near[at + (h / SymbolSet::BITS) as usize] = 1u64 << (h % SymbolSet::BITS);
         near[last] = ALONE;
     }
@@ -84,8 +61,8 @@ fn open_sets(heading: &[u16], near: &mut [u64])
     requires { (i : ℕ) → i < length heading.now → Ready near.old (get_or heading.now i 0) }
     ensures { (i : ℕ) → i < length heading.now → Alone near.new (get_or heading.now i 0) }
 {
-    for i in 0..heading.len() {
-        open(near, heading[i]);
+    for symbol in heading {
+        open(near, *symbol);
     }
 }
 
@@ -97,8 +74,8 @@ fn join_own(own: &mut [u64], k: u16, degree: u16)
 {
     if own[SymbolSet::WORDS] != NOT_GATHERED {
         let word = (k / SymbolSet::BITS) as usize;
-        own[word] = own[word] | 1u64 << (k % SymbolSet::BITS);
-        own[SymbolSet::WORDS] = greater(own[SymbolSet::WORDS], FARTHEST - degree as u64);
+        own[word] |= 1u64 << (k % SymbolSet::BITS);
+        own[SymbolSet::WORDS] = own[SymbolSet::WORDS].max(FARTHEST - degree as u64);
     }
 }
 
@@ -124,16 +101,14 @@ fn join_pair(near: &mut [u64], pair: Pair, cut: u16)
 }
 
 // Gathers the sets of the symbols of the heading, in a list in which none is gathered yet. One look at each pair serves both its symbols.
-pub fn near_sets(file: &[u8], cut: u16, heading: &[u16], near: &mut [u64])
-    requires sound_file { SoundFile file.now × (0 < cut) × (cut ≤ 1000) }
-    requires by_index { (i : ℕ) → i < length heading.now → get_or heading.now i 0 < (table_in file.now).size }
-    requires fresh { Fresh (table_in file.now) near.old }
-    ensures { NearSets (table_in file.now) cut heading.now near.new }
+pub fn near_sets(table: SoundTable, cut: u16, heading: &[u16], near: &mut [u64])
+    requires cut_in_range { (0 < cut) × (cut ≤ 1000) }
+    requires by_index { (i : ℕ) → i < length heading.now → get_or heading.now i 0 < (table_of table).size }
+    requires fresh { Fresh (table_of table) near.old }
+    ensures { NearSets (table_of table.entry) cut heading.now near.new }
 {
     open_sets(heading, near);
-    let mut at = HEADER + symbol_count(file) as usize;
-    for k in 0..pair_count(file) {
-        join_pair(near, pair_from(file, at), cut);
-        at += PAIR_BYTES;
+    for k in 0..table.pairs {
+        join_pair(near, table.pair(k as usize), cut);
     }
 }

@@ -1,11 +1,11 @@
 -- The words of h are lent, joined, and laid where they were.
-use mathlib.Core.Path.{◌≡◌, sym as inv, ◌∙◌, subst}
+use mathlib.Core.Path.{◌≡◌, refl, sym as inv, ◌∙◌, subst}
 use Prim.Native.Nat.{ℕ, ◌+◌, ◌-◌, ◌*◌}
 use native.Mathlib.Omega.{arith}
 use borrow.Rule.Slice.PartMut.{mid_len}
 use lib.ListN.{length, take, drop}
 use Rattle.near.specs.Near.{near_words, OwnJoined, Joined}
-use Rattle.near.proofs.Laying.{part_back}
+use Rattle.sets.proofs.Laying.{part_over}
 use Rattle.near.proofs.Joining.{joined}
 use Rattle.near.proofs.join.Goals as goal
 
@@ -18,5 +18,5 @@ returns c =
     let count : at + near_words - at ≡ near_words = omega arith in
     let whole : length own ≡ near_words = c.join_own.auto.own ∙ mid_len at (at + near_words) near (omega (arith, c.requires.0)) ∙ count in
     let joins = subst (λ (n : ℕ). OwnJoined a.k a.degree (take n (drop at near)) own) count c.join_own.ensures in
-    subst (Joined a.h a.k a.degree near) (inv (part_back near at near_words own whole))
+    subst (Joined a.h a.k a.degree near) (inv (part_over near at near_words own own refl whole))
     (joined near a.h a.k a.degree own c.requires.0 whole joins)

@@ -18,7 +18,7 @@ returns-then-own-ne-NOT_GATHERED c =
     let word : ℕ = get_or a.own.now (a.k / word_bits) 0 in
     own_joined a.own.now a.k a.degree c.requires.0 c.requires.1 _ _
     (ap (bit_or word) (shl_exact 1 (a.k % word_bits) word_bits (lit< tt) (omega arith) ∙ one-mul (2 ^ (a.k % word_bits))))
-    c.greater.ensures
+    c.max.ensures
 
 pub returns-else-own-ne-NOT_GATHERED : goal.returns-else-own-ne-NOT_GATHERED
 returns-else-own-ne-NOT_GATHERED c =
