@@ -1,35 +1,29 @@
 -- Bytes that were moved to the front stay there while more is read behind them.
-use mathlib.Core.Path.{◌≡◌, refl, sym, ap, ◌∙◌}
-use mathlib.Core.List.{List, [], append-nil}
+use mathlib.Core.Path.{◌≡◌, sym, ap, ◌∙◌}
+use mathlib.Core.List.{List}
 use Prim.Native.Nat.{ℕ, ◌-◌, ◌≤◌, ◌<◌}
+use native.Mathlib.Nat.{zero-add}
 use native.Mathlib.Omega.{arith}
-use lib.ListN.{length, take, drop}
-use lib.Seq.{take_at}
-use Rattle.meaning.specs.Over.{over}
-use Rattle.meaning.proofs.Over.{over_front}
+use lib.ListN.{length, take, drop, length-drop}
+use lib.Seq.{paste}
+use Rattle.std.proofs.lemmas.List.Edits.{take-paste}
+use Rattle.input.specs.declared.unread.Unread.{Unread}
 use Rattle.input.specs.Unreads.{unread, ReadBy}
-use Rattle.input.proofs.Unused.{length-unread, unread_front, front_stays}
+use Rattle.input.proofs.Unused.{unread_front, front_stays}
 
-module _ (before : List ℕ) (at end wanted : ℕ) (rising : at ≤ end) (within : end ≤ length before) where
-  -- LAW: nothing was read
-  pub nothing_read : ReadBy before at end wanted (record { at = at; end = end }) before
-  nothing_read = record { rising = rising; within = within; more = []; follows = sym (append-nil _); still = λ _. (refl, refl, refl) }
+-- LAW: a part that is copied to the front stands there
+pub copied_front : (buffer : List ℕ) (at end : ℕ) → end ≤ length buffer → take (end - at) (paste buffer 0 (drop at buffer) (end - at)) ≡ unread buffer at end
+copied_front buffer at end within =
+    let n = end - at in
+    ap (λ k. take k (paste buffer 0 (drop at buffer) n)) (sym (zero-add n)) ∙ take-paste buffer 0 (drop at buffer) n (omega arith) (omega (arith, length-drop at buffer))
 
-  -- LAW: bytes were moved, and more was read up to `read`
-  pub more_read : (moved after : List ℕ) (read : ℕ)
-      → moved ≡ over before 0 (unread before at end) → take (end - at) after ≡ take (end - at) moved
-      → end - at ≤ read → read ≤ length before → end - at < wanted
-      → ReadBy before at end wanted (record { at = 0; end = read }) after
-  more_read moved after read m e l room few = record {
-    rising = omega arith;
-    within = room;
-    more = drop (end - at) (take read after);
-    follows = unread_front after read ∙ front_stays (end - at) read after (unread before at end) l kept;
-    still = λ enough. absurd (omega arith);
-  }
-    where
-      kept : take (end - at) after ≡ unread before at end
-      kept =
-          e
-          ∙ ap (take (end - at)) (m ∙ over_front before (unread before at end))
-          ∙ take_at (unread before at end) (drop (length (unread before at end)) before) (end - at) (length-unread before at end within)
+-- LAW: the bytes were moved, and more was read up to `read`
+pub more_read : (before : List ℕ) (at end wanted : ℕ) (now : Unread) (read : ℕ) (after : List ℕ) → now.at ≡ 0 → now.end ≡ read
+    → take (end - at) after ≡ unread before at end → end - at ≤ read → read ≤ length before → end - at < wanted
+    → ReadBy before at end wanted now after
+more_read before at end wanted now read after a e kept l room few = record {
+  within = omega arith;
+  more = drop (end - at) (take read after);
+  follows = (λ i. unread after (a i) (e i)) ∙ unread_front after read ∙ front_stays (end - at) read after (unread before at end) l kept;
+  still = λ enough. absurd (omega arith);
+}

@@ -1,7 +1,6 @@
 -- Laws that the proofs of functions cite.
 pub mod Behind
 pub mod Kept
-pub mod Moving
 pub mod Once
 pub mod PassingOver
 pub mod Unused

@@ -7,15 +7,15 @@ use Rattle.input.specs.Coming.{Coming, question, too_long_lem, cut_off_lem, ende
 
 -- It lies in a buffer of so much room.
 abbrev pub Found : ℕ → Next → Type 0
-Found room (Question start rest end) = (start ≤ rest) × (rest ≤ end) × (end ≤ room)
-Found room (TooLong rest end) = (rest ≤ end) × (end ≤ room)
+Found room (Question from rest) = (from ≤ rest.at) × (rest.end ≤ room)
+Found room (TooLong rest) = rest.end ≤ room
 Found room CutOff = Unit {0}
 Found room Ended = Unit {0}
 
 -- The bytes that it names in a buffer.
 abbrev pub found_in : List ℕ → Next → Coming
-found_in buffer (Question start rest end) = question (unread buffer start rest) (unread buffer rest end)
-found_in buffer (TooLong rest end) = too_long_lem (unread buffer rest end)
+found_in buffer (Question from rest) = question (unread buffer from rest.at) (unread buffer rest.at rest.end)
+found_in buffer (TooLong rest) = too_long_lem (unread buffer rest.at rest.end)
 found_in buffer CutOff = cut_off_lem
 found_in buffer Ended = ended
 

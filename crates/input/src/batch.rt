@@ -1,18 +1,17 @@
-// The batch: each question stands behind its length, four bytes with the low byte first.
+// The batch: each question stands behind its length, four bytes with the low byte behind.
 ghost use Rattle.std.specs.Prelude.{◌≡◌, ◌+◌, ◌≤◌, ◌<◌, length};
 ghost use Rattle.input.specs.Coming.{length_in, Follows, Comes};
 ghost use Rattle.input.specs.Found.{FoundBy};
 ghost use Rattle.input.specs.Unreads.{unread};
 
-use crate::reading::read_until;
-use table::number::number_at;
+use crate::reading::{Unread, read_until};
 
 #[derive(Clone, Copy)]
 pub enum Next {
-    // the question, from the first number up to the second, and where the bytes end that are not used yet
-    Question(usize, usize, usize),
+    // the question, which begins here and ends where the bytes begin that are not used yet
+    Question { from: usize, rest: Unread },
     // a question that was too long has been passed over; the bytes that are not used yet
-    TooLong(usize, usize),
+    TooLong(Unread),
     // the input ends inside a length or a question
     CutOff,
     // there is no more question
@@ -23,61 +22,58 @@ fn length_at(bytes: &[u8], at: usize) -> usize
     requires { at + 3 < length bytes.now }
     ensures { result ≡ length_in (unread bytes.now at (at + 4)) }
 {
-    number_at(bytes, at) as usize + 65536 * number_at(bytes, at + 2) as usize
+    u32::from_le_bytes([bytes[at], bytes[at + 1], bytes[at + 2], bytes[at + 3]]) as usize
 }
 
 // Passes over a question that is too long, of so many bytes.
-fn pass_over(rt: HostRuntime, buffer: &mut [u8], at: usize, end: usize, count: usize) -> Next
-    requires { (at ≤ end) × (end ≤ length buffer.old) × (65535 ≤ length buffer.old) × (65535 < count) }
-    ensures { FoundBy (Follows count) buffer.old at end result buffer.new }
+fn pass_over(rt: HostRuntime, buffer: &mut [u8], behind: Unread, count: usize) -> Next
+    requires { (behind.end ≤ length buffer.old) × (65535 ≤ length buffer.old) × (65535 < count) }
+    ensures { FoundBy (Follows count) buffer.old behind.at behind.end result buffer.new }
 {
-    let mut from = at;
-    let mut to = end;
+    let mut passed = behind;
     let mut left = count;
-    while left > to - from {
-        left -= to - from;
-        let unread = read_until(rt, buffer, to, to, 1);
-        from = unread.at;
-        to = unread.end;
-        if from == to {
+    while left > passed.len() {
+        left -= passed.len();
+        passed = read_until(rt, buffer, Unread::front(0), 1);
+        if passed.is_empty() {
             return Next::CutOff;
         }
     }
-    let rest = from + left;
-    Next::TooLong(rest, to)
+    Next::TooLong(passed.skip(left))
 }
 
-// A question of so many bytes that begins at `at`.
-fn whole_question(rt: HostRuntime, buffer: &mut [u8], at: usize, end: usize, count: usize) -> Next
-    requires { (at ≤ end) × (end ≤ length buffer.old) × (65535 ≤ length buffer.old) × (count ≤ 65535) }
-    ensures { FoundBy (Follows count) buffer.old at end result buffer.new }
+// A question of so many bytes.
+fn whole_question(rt: HostRuntime, buffer: &mut [u8], behind: Unread, count: usize) -> Next
+    requires { (behind.end ≤ length buffer.old) × (65535 ≤ length buffer.old) × (count ≤ 65535) }
+    ensures { FoundBy (Follows count) buffer.old behind.at behind.end result buffer.new }
 {
-    let unread = read_until(rt, buffer, at, end, count);
-    if unread.end - unread.at < count {
+    let read = read_until(rt, buffer, behind, count);
+    if read.len() < count {
         return Next::CutOff;
     }
-    let rest = unread.at + count;
-    Next::Question(unread.at, rest, unread.end)
+    Next::Question {
+        from: read.at,
+        rest: read.skip(count),
+    }
 }
 
-// What comes next in the batch. The bytes from `at` up to `end` are not used yet.
-pub fn next_question(rt: HostRuntime, buffer: &mut [u8], at: usize, end: usize) -> Next
-    requires { (at ≤ end) × (end ≤ length buffer.old) × (65535 ≤ length buffer.old) }
-    ensures { FoundBy Comes buffer.old at end result buffer.new }
+// What comes next in the batch.
+pub fn next_question(rt: HostRuntime, buffer: &mut [u8], kept: Unread) -> Next
+    requires { (kept.end ≤ length buffer.old) × (65535 ≤ length buffer.old) }
+    ensures { FoundBy Comes buffer.old kept.at kept.end result buffer.new }
 {
-    let unread = read_until(rt, buffer, at, end, 4);
-    let from = unread.at;
-    let to = unread.end;
-    if from == to {
+    let read = read_until(rt, buffer, kept, 4);
+    if read.is_empty() {
         return Next::Ended;
     }
-    if to - from < 4 {
+    if read.len() < 4 {
         return Next::CutOff;
     }
-    let count = length_at(buffer, from);
+    let count = length_at(buffer, read.at);
+    let rest = read.skip(4);
     if count > 65535 {
-        pass_over(rt, buffer, from + 4, to, count)
+        pass_over(rt, buffer, rest, count)
     } else {
-        whole_question(rt, buffer, from + 4, to, count)
+        whole_question(rt, buffer, rest, count)
     }
 }

@@ -3,3 +3,4 @@
 
 pub mod batch;
 pub mod reading;
+pub mod unread;

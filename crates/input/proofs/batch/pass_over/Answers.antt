@@ -1,51 +1,31 @@
 -- With each turn less is missing of what is left to be passed over.
-use borrow.Author.Rules.{rules}
 use mathlib.Core.Path.{refl, ◌∙◌}
 use Prim.Native.Nat.{◌-◌}
 use native.Mathlib.Omega.{arith}
-use Rattle.input.proofs.PassingOver.{passing_first, passing_on, passing_cut, passing_last}
+use Rattle.input.proofs.PassingOver.{PassingOver, passing_first, passing_on, passing_cut, passing_last}
 use Rattle.input.proofs.batch.pass_over.Goals as goal
+use Rattle.input.proofs.batch.pass_over.Goals.{After-is_empty}
 
-pub loop-to-init : goal.loop-to-init
-loop-to-init c = (refl, passing_first _ _ _ _ c.requires.0 c.requires.1)
+pub loop-left-init : goal.loop-left-init
+loop-left-init c = (refl, passing_first c.args.buffer.now c.args.behind c.args.count c.requires.0)
 
-pub overflow_sub-to : goal.overflow_sub-to
-overflow_sub-to c = c.loop-to.invariant.1.rising
+-- what holds once more was read
+more_read : (c : After-is_empty) → PassingOver c.args.buffer.now c.args.behind.at c.args.behind.end c.args.count c.read_until-passed.new.buffer c.read_until-passed.result (c.loop-left.left - c.len-left.result)
+more_read c =
+    let loop = c.loop-left in
+    let read = c.read_until-passed in
+    rw c.len-left.ensures (passing_on _ _ _ _ loop.buffer loop.invariant.0 loop.passed loop.left loop.invariant.1 (omega arith) c.front.result c.front.ensures.1 read.result read.new.buffer read.ensures)
 
-pub overflow_sub-left : goal.overflow_sub-left
-overflow_sub-left c = c.loop-to.invariant.1.rising
+pub returns-then-is_empty : goal.returns-then-is_empty
+returns-then-is_empty c =
+    let read = c.read_until-passed in
+    let on = more_read (goal.at.returns-then-is_empty c).After-is_empty in
+    passing_cut _ _ _ _ read.new.buffer (read.auto.buffer ∙ c.loop-left.invariant.0) read.result (c.loop-left.left - c.len-left.result) on (omega arith) (omega arith)
 
-pub read_until-unread-requires : goal.read_until-unread-requires
-read_until-unread-requires c =
-    let inv = c.loop-to.invariant in
-    (omega arith, omega (arith, inv.0, inv.1.within), omega (arith, inv.0, c.requires.2))
-
-pub shape_of-buffer-then-from-to : goal.shape_of-buffer-then-from-to
-shape_of-buffer-then-from-to c = c.read_until-unread.auto.buffer ∙ c.loop-to.invariant.0
-
-pub returns-then-from-to : goal.returns-then-from-to
-returns-then-from-to c =
-    let loop = c.loop-to in
-    let read = c.read_until-unread in
-    let on = passing_on _ _ _ _ loop.buffer loop.invariant.0 loop.from loop.to loop.left loop.invariant.1 (omega arith) read.result read.new.buffer read.ensures in
-    passing_cut _ _ _ _ read.new.buffer (read.auto.buffer ∙ loop.invariant.0) read.result.at read.result.end (loop.left - (loop.to - loop.from)) on (omega arith) (omega arith)
-
-pub loop-to-smaller : goal.loop-to-smaller
-loop-to-smaller c = omega (arith, c.read_until-unread.ensures.rising)
-
-pub loop-to-preserved : goal.loop-to-preserved
-loop-to-preserved c =
-    let loop = c.loop-to in
-    let read = c.read_until-unread in
-    (read.auto.buffer ∙ loop.invariant.0, passing_on _ _ _ _ loop.buffer loop.invariant.0 loop.from loop.to loop.left loop.invariant.1 (omega arith) read.result read.new.buffer read.ensures)
-
-pub overflow_add-rest : goal.overflow_add-rest
-overflow_add-rest c = search (rules, c.loop-to.invariant.1.rising, c.loop-to.invariant.1.within)
-
-pub shape_of-buffer : goal.shape_of-buffer
-shape_of-buffer c = c.loop-to.invariant.0
+pub loop-left-preserved : goal.loop-left-preserved
+loop-left-preserved c = (c.read_until-passed.auto.buffer ∙ c.loop-left.invariant.0, more_read (goal.at.loop-left-preserved c).After-is_empty)
 
 pub returns : goal.returns
 returns c =
-    let loop = c.loop-to in
-    passing_last _ _ _ _ loop.buffer loop.invariant.0 loop.from loop.to loop.left loop.invariant.1 (omega arith) c.requires.3
+    let loop = c.loop-left in
+    passing_last _ _ _ _ loop.buffer loop.invariant.0 loop.passed loop.left loop.invariant.1 (omega arith) c.requires.2 c.skip.result c.skip.ensures.0 c.skip.ensures.1

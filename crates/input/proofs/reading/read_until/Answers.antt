@@ -1,50 +1,34 @@
--- With each read more bytes stand in the buffer, and never more than it has room for; those that were moved to the front stay there.
-use mathlib.Core.Path.{refl, ◌∙◌}
+-- What was moved to the front stays there, whether the last read brought something or not.
+use mathlib.Core.Path.{◌≡◌, ap, ◌∙◌}
+use Prim.Native.Nat.{◌-◌}
 use native.Mathlib.Omega.{arith}
+use lib.ListN.{take}
+use Rattle.input.specs.Unreads.{unread}
 use Rattle.input.proofs.Unused.{front_on}
-use Rattle.input.proofs.Kept.{nothing_read, more_read}
+use Rattle.input.proofs.Kept.{more_read}
 use Rattle.input.proofs.reading.read_until.Goals as goal
-
-pub returns-then-end-at : goal.returns-then-end-at
-returns-then-end-at c = let s = c in nothing_read _ s.args.at s.args.end s.args.wanted s.requires.0 s.requires.1
-
-pub move_front-read-requires : goal.move_front-read-requires
-move_front-read-requires c = (omega arith, omega arith)
-
-pub loop-read-init : goal.loop-read-init
-loop-read-init c = let moved = c.move_front-read in (refl, omega (arith, moved.ensures.0, moved.auto.buffer), omega (arith, moved.ensures.0), refl)
-
-pub read_more-more-requires : goal.read_more-more-requires
-read_more-more-requires c = omega (arith, c.loop-read.invariant)
-
-pub shape_of-buffer-then-more-read : goal.shape_of-buffer-then-more-read
-shape_of-buffer-then-more-read c =
-    let loop = c.loop-read in
-    c.read_more-more.auto.buffer ∙ loop.invariant.0 ∙ c.move_front-read.auto.buffer
-
-pub returns-then-more-read : goal.returns-then-more-read
-returns-then-more-read c =
-    let moved = c.move_front-read in
-    let loop = c.loop-read in
-    let read = c.read_more-more in
-    more_read _ c.args.at c.args.end c.args.wanted c.requires.0 c.requires.1 moved.new.buffer read.new.buffer loop.read
-    moved.ensures.1 (front_on _ loop.read loop.buffer read.new.buffer loop.invariant.2 read.ensures.2 ∙ loop.invariant.3) loop.invariant.2 (omega (arith, loop.invariant.1, moved.auto.buffer)) (omega arith)
-
-pub loop-read-smaller : goal.loop-read-smaller
-loop-read-smaller c = omega (arith, c.read_more-more.ensures)
+use Rattle.input.proofs.reading.read_until.Goals.{else-loop-read-test, then-loop-read-test+then-more-read}
 
 pub loop-read-preserved : goal.loop-read-preserved
 loop-read-preserved c =
     let loop = c.loop-read in
-    let read = c.read_more-more in
-    (read.auto.buffer ∙ loop.invariant.0, omega (arith, read.ensures.1, loop.invariant.0), omega (arith, read.ensures.0, loop.invariant.2), front_on _ loop.read loop.buffer read.new.buffer loop.invariant.2 read.ensures.2 ∙ loop.invariant.3)
-
-pub shape_of-buffer : goal.shape_of-buffer
-shape_of-buffer c = c.loop-read.invariant.0 ∙ c.move_front-read.auto.buffer
+    let read = c.read_more-more in (
+      read.auto.buffer ∙ loop.invariant.0,
+      omega (arith, read.ensures.1, read.auto.buffer),
+      omega (arith, read.ensures.0, loop.invariant.2),
+      front_on _ loop.read loop.buffer read.new.buffer loop.invariant.2 read.ensures.2 ∙ loop.invariant.3,
+    )
 
 pub returns : goal.returns
 returns c =
-    let moved = c.move_front-read in
+    let kept = c.args.kept in
     let loop = c.loop-read in
-    more_read _ c.args.at c.args.end c.args.wanted c.requires.0 c.requires.1 moved.new.buffer loop.buffer loop.read
-    moved.ensures.1 loop.invariant.3 loop.invariant.2 (omega (arith, loop.invariant.1, moved.auto.buffer)) (omega arith)
+    let stays : take (kept.end - kept.at) c.loop-read-test.buffer ≡ unread c.args.buffer.now kept.at kept.end =
+    elim c.loop-read-test.branch [
+      | else-loop-read-test w ↦ ap (take (kept.end - kept.at)) w.buffer-is ∙ loop.invariant.3
+      | then-loop-read-test+then-more-read w ↦
+          ap (take (kept.end - kept.at)) w.buffer-is
+          ∙ front_on _ loop.read loop.buffer w.read_more-more.new.buffer loop.invariant.2 w.read_more-more.ensures.2 ∙ loop.invariant.3
+    ] in
+    more_read c.args.buffer.now kept.at kept.end c.args.wanted c.front.result loop.read c.loop-read-test.buffer c.front.ensures.0 c.front.ensures.1
+    stays loop.invariant.2 (omega (arith, loop.invariant.0, loop.invariant.1)) (omega arith)

@@ -1,5 +1,0 @@
--- How many digits there may be falls with each call.
-use Rattle.text.proofs.+put_digits.Given as goal
-
-abbrev pub decreases-put_digits : goal.decreases-put_digits
-decreases-put_digits l = l.most
