@@ -1,18 +1,22 @@
--- Texts that are put one behind the other are one text, and a number's digits are those of its tenth with one digit more.
+-- Texts that are put one behind the other are one text, and a number's digits are those that the library writes.
 use mathlib.Core.Path.{◌≡◌, refl, sym, ap, ap₂, ◌∙◌}
-use mathlib.Core.List.{List, [], ◌∷◌, ◌++◌, append_assoc}
+use mathlib.Core.List.{List, [], ◌∷◌, ◌++◌, append_assoc, append-nil}
 use mathlib.Core.Bool.{Bool, true, false, cond}
 use Prim.Native.Nat.{ℕ, zero, suc, ◌+◌, ◌-◌, ◌/◌, ◌%◌, ◌^◌, ◌≤◌, ◌<◌}
-use native.Mathlib.Nat.{add-zero, pow-zero, pow-suc}
+use native.Mathlib.Nat.{add-zero}
 use native.Mathlib.Omega.{arith}
-use lib.Dec.{ltb}
 use lib.ListN.{length, take, drop, length-append}
-use lib.Seq.{take_at}
+use lib.Seq.{take_at, take_all}
+use lib.Dec.{ltb}
 use borrow.Author.Tests.{lt-ltb, le-ltb}
+use borrow.Rule.Slice.PartMut.{put_mid}
+use Rattle.std.specs.Fmt.{decimal}
+use Rattle.std.proofs.lemmas.Fmt.{PrependsLastDigit, decimal_from_prepends, length-decimal-le}
+use Rattle.std.proofs.lemmas.Slice.{put_mid-paste}
 use Rattle.meaning.specs.Over.{over}
 use Rattle.meaning.specs.Program.{digits}
 use Rattle.meaning.proofs.Over.{over_none, over_next, over_front}
-use Rattle.text.specs.Texts.{PutBy}
+use Rattle.text.specs.Texts.{PutBy, numeral}
 
 module _ {a : List ℕ} {at : ℕ} where
   pub put_none : at ≤ length a → PutBy a at [] at a
@@ -35,7 +39,23 @@ put_front a text b n p =
     let e : n ≡ length text = omega (arith, p.ends) in
     ap₂ take e (p.written ∙ over_front a text) ∙ take_at text (drop (length text) a) (length text) refl
 
--- ---- digits
+-- LAW: a part of a buffer is written over
+pub over_part : (at k : ℕ) (a ys zs : List ℕ) → ys ≡ zs → length zs ≡ k → put_mid at k a ys ≡ over a at zs
+unfolding over
+over_part at k a ys zs e f =
+    put_mid-paste at k a ys zs k e refl (sym f)
+    ∙ ap (λ s. take at a ++ s ++ drop (at + k) a) (take_all k zs (omega arith))
+    ∙ ap (λ n. take at a ++ zs ++ drop (at + n) a) (sym f)
+
+-- LAW: the digits are those that the library writes
+pub same_digits : (n : ℕ) → n < 2 ^ 16 → decimal n ≡ numeral n
+unfolding numeral
+same_digits n l = sym (decimal_from_prepends digits by_last 5 n [] (omega arith) (length-decimal-le 5 n (omega arith) (omega arith) (omega arith)) ∙ append-nil _)
+  where
+    by_last : PrependsLastDigit digits
+    by_last = record { one = λ k m acc s. rw (lt-ltb m 10 s); more = λ k m acc s. rw (le-ltb m 10 s) }
+
+-- ---- digits with others before or behind them
 
 pub digits_front : (k n : ℕ) (text : List ℕ) → digits k n text ≡ digits k n [] ++ text
 digits_front zero n text = refl
@@ -48,14 +68,6 @@ digits_front (suc k) n text = go (ltb n 10) (digits_front k (n / 10))
         → cond low ((48 + n) ∷ text) (digits k (n / 10) (d ∷ text)) ≡ cond low ((48 + n) ∷ []) (digits k (n / 10) (d ∷ [])) ++ text
     go true rest = refl
     go false rest = rest (d ∷ text) ∙ sym (append_assoc (digits k (n / 10) []) (d ∷ []) text) ∙ ap (λ t. t ++ text) (sym (rest (d ∷ [])))
-
--- LAW: the tenth has a digit less
-pub tenth : (most n : ℕ) → 10 ≤ n → n < 10 ^ most → (0 < most - 1) × (n / 10 < 10 ^ (most - 1))
-tenth zero n l m = absurd (omega (arith, pow-zero 10))
-tenth (suc zero) n l m = absurd (omega arith)
-tenth (suc (suc k)) n l m =
-    let e : suc (suc k) - 1 ≡ suc k = omega arith in
-    rw e (omega arith, omega (arith, pow-suc 10 (suc k)))
 
 -- LAW: a number below ten has one digit
 pub digits_one : (most n : ℕ) → 0 < most → n < 10 → digits most n [] ≡ (48 + n) ∷ []
