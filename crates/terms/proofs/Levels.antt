@@ -9,7 +9,8 @@ use native.Mathlib.Nat.{not-suc-le-zero}
 use native.Mathlib.Numerals.{add-one}
 use native.Mathlib.Decide.{dec_lt}
 use native.Mathlib.Omega.{arith}
-use lib.ListN.{length, get_or, set, length-set}
+use lib.ListN.{length, get_or, set, take, length-set}
+use Rattle.std.proofs.lemmas.List.{length-take, get_or-take}
 use lib.Seq.{get_or-set_same, get_or-set_other}
 use Rattle.theory.specs.Table.{Table}
 use Rattle.theory.specs.Read.{Walk, ends, fault, onward, several, walk}
@@ -29,6 +30,16 @@ last_of : (f : ℕ → Walk) (w : Walk) → onward w (several f 0) ≡ w
 unfolding several
 last_of f (ends j) = refl
 last_of f (fault j) = refl
+
+-- what holds of the first levels by themselves holds of them in the list of all
+stays_open : (outer : List ℕ) (depth kept : ℕ) → depth ≤ length outer → StayOpen (take depth outer) (length (take depth outer)) kept → StayOpen outer depth kept
+stays_open outer depth kept l o =
+    let e : length (take depth outer) ≡ depth = omega (arith, length-take depth outer) in
+    record {
+      within = omega (arith, o.within);
+      done = λ d a b. sym (get_or-take depth outer d 0 b) ∙ o.done d a (omega arith);
+      last = λ p. omega (arith, o.last p, get_or-take depth outer (kept - 1) 0 (omega (arith, o.within)));
+    }
 
 module _ (T : Table) (vars : Bool) (xs : List ℕ) where
   -- The walk over a term on a level inside d others: the whole term is at most 64 deep.
@@ -135,13 +146,19 @@ module _ (T : Table) (vars : Bool) (xs : List ℕ) where
         pub next_beside : 0 < here - 1 → ToRead outer depth (here - 1) (at + 1)
         next_beside p = record { levels = r.levels; shallow = r.shallow; within = omega arith; some = p; rest = others }
 
-        module _ (last : here - 1 ≡ 0) (kept : ℕ) (o : StayOpen outer depth kept) where
+        module _ (last : here - 1 ≡ 0) (kept : ℕ) (found : StayOpen (take depth outer) (length (take depth outer)) kept) where
+          o : StayOpen outer depth kept
+          o = stays_open outer depth kept (omega (arith, r.levels, r.shallow)) found
+
           outside : Rest outer kept 0 (at + 1)
           outside = out_of_all outer (at + 1) depth kept o (rw last at others)
 
           -- LAW: .. or where none is left, one on the innermost level that is still open
-          pub next_around : 0 < kept → ToRead outer (kept - 1) (get_or outer (kept - 1) 0) (at + 1)
-          next_around p = record { levels = r.levels; shallow = omega (arith, o.within, r.shallow); within = omega arith; some = o.last p; rest = around outer (at + 1) kept p outside }
+          pub next_around : (innermost : ℕ) → kept ≡ innermost + 1 → ToRead outer innermost (get_or outer innermost 0) (at + 1)
+          next_around innermost e =
+              let p : 0 < kept = omega arith in
+              let q : kept - 1 ≡ innermost = omega arith in
+              rw (← q) (record { levels = r.levels; shallow = omega (arith, o.within, r.shallow); within = omega arith; some = o.last p; rest = around outer (at + 1) kept p outside })
 
           -- LAW: .. or where no level is, the term ends here
           pub term_ends : kept ≡ 0 → ends (at + 1) ≡ walk T vars xs 64 0

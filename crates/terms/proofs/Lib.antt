@@ -1,5 +1,4 @@
 -- Laws that the proofs of functions cite, here and in the crates above.
-pub mod Told
 pub mod Nodes
 pub mod Steps
 pub mod Ends

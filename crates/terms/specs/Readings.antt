@@ -1,8 +1,7 @@
 -- What the answer about a whole list says, in the theory's words.
-use Rattle.theory.specs.Read.{Reading as Read, whole, faulty}
-use Rattle.terms.specs.declared.reading.Reading.{Reading}
-use Rattle.terms.specs.declared.reading.Reading.TheVariants.{Whole, Fault}
+use Rattle.std.specs.Prelude.{ℕ, Result, Ok, Err}
+use Rattle.theory.specs.Read.{Reading, whole, faulty}
 
-abbrev pub reading_in : Reading → Read
-reading_in Whole = whole
-reading_in (Fault i) = faulty i
+abbrev pub reading_in : {A : Type 0} → Result A ℕ → Reading
+reading_in (Ok a) = whole
+reading_in (Err i) = faulty i

@@ -6,7 +6,7 @@ use Rattle.terms.proofs.Spans.{ToCome}
 use Rattle.terms.proofs.walk.end_from.Given as goal
 
 abbrev pub invariant-loop-to_come : goal.invariant-loop-to_come
-invariant-loop-to_come l = ToCome (table_in l.file) l.list l.at l.to_come l.end
+invariant-loop-to_come l = ToCome (table_in l.table.file.now) l.list l.at l.to_come l.end
 
 abbrev pub decreases-loop-to_come : goal.decreases-loop-to_come
 decreases-loop-to_come l = length l.list - l.end
