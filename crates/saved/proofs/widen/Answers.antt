@@ -1,6 +1,5 @@
 -- After p turns the sets of the first p positions lie over the output.
-use borrow.Author.Rules.{rules}
-use mathlib.Core.Path.{◌≡◌, refl, ap, ap₂, ◌∙◌}
+use mathlib.Core.Path.{◌≡◌, ap, ap₂, ◌∙◌}
 use mathlib.Core.List.{List}
 use Prim.Native.Nat.{ℕ, ◌*◌, ◌/◌}
 use native.Mathlib.Omega.{arith}
@@ -20,22 +19,15 @@ pub returns-then-output-words : goal.returns-then-output-words
 returns-then-output-words c = let a = c.args in short a.words.now a.output.now (omega arith) (omega arith)
 
 pub loop-position-init : goal.loop-position-init
-loop-position-init c = (omega arith, refl, over_none c.args.output.now 0)
-
-pub put-requires : goal.put-requires
-put-requires c = omega (arith, c.loop-position.invariant.1)
+loop-position-init c = over_none c.args.output.now 0
 
 pub loop-position-preserved : goal.loop-position-preserved
 loop-position-preserved c =
     let a = c.args in
     let loop = c.loop-position in
-    let set = c.saved_set in (
-      omega arith,
-      search rules,
-      c.put.ensures
-          ∙ ap₂ (λ (out xs : List ℕ). over out (set_words_lem * loop.position) xs) loop.invariant.2 set.ensures
-          ∙ set_more a.words.now a.output.now (omega arith) (omega arith) loop.position (omega arith),
-    )
+    c.put.ensures
+    ∙ ap₂ (λ (out xs : List ℕ). over out (set_words_lem * loop.position) xs) loop.invariant c.saved_set.ensures
+    ∙ set_more a.words.now a.output.now (omega arith) (omega arith) loop.position (omega arith)
 
 pub returns : goal.returns
 returns c =
@@ -43,4 +35,4 @@ returns c =
     let loop = c.loop-position in
     let all : loop.position ≡ length a.words.now / saved_words = omega arith in
     all_put a.words.now a.output.now (omega arith) (omega arith) loop.output
-    (loop.invariant.2 ∙ ap (λ (n : ℕ). over a.output.now 0 (through n (widened_set a.words.now))) all)
+    (loop.invariant ∙ ap (λ (n : ℕ). over a.output.now 0 (through n (widened_set a.words.now))) all)
