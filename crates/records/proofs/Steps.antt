@@ -5,13 +5,13 @@ use Prim.Native.Nat.{ℕ, ◌+◌, ◌*◌, ◌≤◌, ◌<◌}
 use native.Mathlib.Numerals.{add-one}
 use native.Mathlib.Nat.{zero-add}
 use native.Mathlib.Omega.{arith}
-use lib.ListN.{length, get_or, set, take}
+use lib.ListN.{length, get_or, take}
 use lib.Seq.{length-take-le, take-suc, take-length, take_at}
 use Rattle.theory.specs.Pairs.{Pair as ListedPair, pair}
 use Rattle.meaning.specs.Limits.{most_pairs}
 use Rattle.meaning.specs.File.{numbers_of_lem}
 use Rattle.meaning.specs.Over.{over}
-use Rattle.meaning.proofs.Over.{length_over, over_one, over_two, over_then, over_front}
+use Rattle.meaning.proofs.Over.{over_then, over_front}
 use Rattle.table.specs.Read.{pair_in}
 use Rattle.table.specs.declared.read.Pair.{Pair}
 use Rattle.writer.specs.Laid.{Laid}
@@ -19,12 +19,6 @@ use Rattle.records.specs.Records.{listed, none}
 use Rattle.records.proofs.Listing.{length-listed, listed_at}
 
 -- ---- the numbers of pairs
-
-pub over_three : (out : List ℕ) (at a b c : ℕ) → at + 3 ≤ length out → set (set (set out at a) (at + 1) b) (at + 2) c ≡ over out at (a ∷ b ∷ c ∷ [])
-over_three out at a b c l =
-    ap (λ xs. set xs (at + 2) c) (over_two out at a b (omega arith))
-    ∙ over_one (over out at (a ∷ b ∷ [])) (at + 2) c (omega (arith, length_over out at (a ∷ b ∷ []) (omega arith)))
-    ∙ over_then out at (a ∷ b ∷ []) 2 (c ∷ []) refl (omega arith)
 
 pub length-numbers_of : (ps : List ListedPair) → length (numbers_of_lem ps) ≡ 3 * length ps
 unfolding numbers_of_lem

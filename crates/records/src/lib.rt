@@ -8,26 +8,24 @@ ghost use Rattle.meaning.specs.File.{numbers_of_lem};
 ghost use Rattle.meaning.specs.Over.{over};
 ghost use Rattle.records.specs.Records.{listed, WriteRecords};
 
+use refusal::Refusal;
 use table::read::Pair;
 use table::rules::MOST_PAIRS;
-use writer::{Writing, write_first};
+use writer::write_first;
 
 // So many of the pairs fit into so much room, three numbers each.
 fn fitting(room: usize, pairs: usize) -> usize
     ensures { (result ≤ pairs) × (3 * result ≤ room) × (3 * pairs ≤ room → result ≡ pairs) }
 {
-    let most = room / 3;
-    if pairs < most { pairs } else { most }
+    pairs.min(room / 3)
 }
 
 // A pair's three numbers, from number `at` on.
-fn put_three(numbers: &mut [u16], at: usize, lower: u16, higher: u16, degree: u16)
+fn put_three(numbers: &mut [u16], at: usize, pair: Pair)
     requires { at + 3 ≤ length numbers.old }
-    ensures { numbers.new ≡ over numbers.old at (lower ∷ higher ∷ degree ∷ []) }
+    ensures { numbers.new ≡ over numbers.old at (pair.lower ∷ pair.higher ∷ pair.degree ∷ []) }
 {
-    numbers[at] = lower;
-    numbers[at + 1] = higher;
-    numbers[at + 2] = degree;
+    numbers[at..at + 3].copy_from_slice(&[pair.lower, pair.higher, pair.degree]);
 }
 
 // The numbers of the first `count` records, one behind the other.
@@ -35,16 +33,18 @@ fn copy_records(numbers: &mut [u16], pairs: &[Pair], count: usize)
     requires { (count ≤ length pairs.now) × (3 * count ≤ length numbers.old) }
     ensures { numbers.new ≡ over numbers.old 0 (numbers_of_lem (take count (listed pairs.now))) }
 {
-    let mut k = 0;
-    while k < count {
-        let pair = pairs[k];
-        put_three(numbers, 3 * k, pair.lower, pair.higher, pair.degree);
-        k += 1;
+    for (k, pair) in pairs[..count].iter().enumerate() {
+        put_three(numbers, 3 * k, *pair);
     }
 }
 
 // The table file of these arities and pairs, as `write_records` has it, by way of a list of numbers that is lent for it.
-fn write_by(numbers: &mut [u16], arities: &[u8], pairs: &[Pair], output: &mut [u8]) -> Writing
+fn write_by(
+    numbers: &mut [u16],
+    arities: &[u8],
+    pairs: &[Pair],
+    output: &mut [u8],
+) -> Result<usize, Refusal>
     requires { length pairs.now ≤ most_pairs → 3 * length pairs.now ≤ length numbers.old }
     ensures { WriteRecords arities.now pairs.now output.old result output.new }
 {
@@ -58,7 +58,7 @@ const FEW: usize = 256;
 
 // The table file of these arities and pairs, written to the front of the output; or a refusal, and the output as it was. (The lists are filled
 // with 1s, 16 bytes at a time; zeros the compiler would leave to the C library, which may take them byte by byte.)
-pub fn write_records(arities: &[u8], pairs: &[Pair], output: &mut [u8]) -> Writing
+pub fn write_records(arities: &[u8], pairs: &[Pair], output: &mut [u8]) -> Result<usize, Refusal>
     ensures { WriteRecords arities.now pairs.now output.old result output.new }
 {
     if pairs.len() <= FEW {

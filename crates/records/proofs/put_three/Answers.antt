@@ -1,7 +1,7 @@
--- Three stores, one behind the other.
-use Rattle.std.proofs.Common.{arith}
-use Rattle.records.proofs.Steps.{over_three}
+-- The part from number `at` on holds the three that were copied there.
+use native.Mathlib.Omega.{arith}
+use Rattle.layout.proofs.Bytes.{over_copied}
 use Rattle.records.proofs.put_three.Goals as goal
 
 pub returns : goal.returns
-returns c = over_three _ _ _ _ _ (omega arith)
+returns c = over_copied c.args.numbers.now c.args.at _ _ c.copy_from_slice.ensures.after (omega arith)
