@@ -16,28 +16,29 @@ use Rattle.std.proofs.lemmas.Slice.{put_mid-paste}
 use Rattle.meaning.specs.Over.{over}
 use Rattle.meaning.specs.Program.{digits}
 use Rattle.meaning.proofs.Over.{over_none, over_next, over_front}
-use Rattle.text.specs.Texts.{PutBy, numeral}
+use Rattle.text.specs.declared.Text.{Text}
+use Rattle.text.specs.Texts.{PutBy, numeral, long_numeral}
 
-module _ {a : List ℕ} {at : ℕ} where
-  pub put_none : at ≤ length a → PutBy a at [] at a
-  put_none l = record { ends = sym (add-zero at); inside = l; written = over_none a at }
+pub put_none : {text : Text} → PutBy text [] text
+put_none {text} = record { same_buffer = refl; room = refl; ends = sym (add-zero _); written = over_none text.buffer.now text.used }
 
-  -- LAW: a text behind another
-  pub put_then : {xs ys b d : List ℕ} {m n : ℕ} → PutBy a at xs m b → PutBy b m ys n d → length b ≡ length a → PutBy a at (xs ++ ys) n d
-  put_then {xs} {ys} {b} {d} {m} {n} p q l =
-      let e : length (xs ++ ys) ≡ length xs + length ys = length-append xs ys in
-      let f : d ≡ over b (at + length xs) ys = q.written ∙ ap (λ i. over b i ys) p.ends in
-      record {
-        ends = omega (arith, p.ends, q.ends);
-        inside = omega (arith, q.inside);
-        written = over_next a at xs (length xs) ys p.written f refl (omega (arith, p.ends, p.inside));
-      }
+-- LAW: a text behind another
+pub put_then : {a b d : Text} {xs ys : List ℕ} → PutBy a xs b → PutBy b ys d → PutBy a (xs ++ ys) d
+put_then {a} {b} {d} {xs} {ys} p q =
+    let e : length (xs ++ ys) ≡ length xs + length ys = length-append xs ys in
+    let f : d.buffer.now ≡ over b.buffer.now (a.used + length xs) ys = q.written ∙ ap (λ i. over b.buffer.now i ys) p.ends in
+    record {
+      same_buffer = q.same_buffer ∙ p.same_buffer;
+      room = q.room ∙ p.room;
+      ends = omega (arith, p.ends, q.ends);
+      written = over_next a.buffer.now a.used xs (length xs) ys p.written f refl (omega (arith, p.ends, p.room, b.inside));
+    }
 
 -- LAW: what is put at the front is read back there
-pub put_front : (a text b : List ℕ) (n : ℕ) → PutBy a 0 text n b → take n b ≡ text
-put_front a text b n p =
-    let e : n ≡ length text = omega (arith, p.ends) in
-    ap₂ take e (p.written ∙ over_front a text) ∙ take_at text (drop (length text) a) (length text) refl
+pub put_front : (a : Text) (text : List ℕ) (b : Text) → a.used ≡ 0 → PutBy a text b → take b.used b.buffer.now ≡ text
+put_front a text b z p =
+    let e : b.used ≡ length text = omega (arith, p.ends) in
+    ap₂ take e (p.written ∙ ap (λ i. over a.buffer.now i text) z ∙ over_front a.buffer.now text) ∙ take_at text (drop (length text) a.buffer.now) (length text) refl
 
 -- LAW: a part of a buffer is written over
 pub over_part : (at k : ℕ) (a ys zs : List ℕ) → ys ≡ zs → length zs ≡ k → put_mid at k a ys ≡ over a at zs
@@ -48,12 +49,19 @@ over_part at k a ys zs e f =
     ∙ ap (λ n. take at a ++ zs ++ drop (at + n) a) (sym f)
 
 -- LAW: the digits are those that the library writes
-pub same_digits : (n : ℕ) → n < 2 ^ 16 → decimal n ≡ numeral n
-unfolding numeral
-same_digits n l = sym (decimal_from_prepends digits by_last 5 n [] (omega arith) (length-decimal-le 5 n (omega arith) (omega arith) (omega arith)) ∙ append-nil _)
+pub same_digits : (k n : ℕ) → 0 < k → n < 10 ^ k → n < 2 ^ 64 → decimal n ≡ digits k n []
+same_digits k n some few l = sym (decimal_from_prepends digits by_last k n [] l (length-decimal-le k n some few l) ∙ append-nil _)
   where
     by_last : PrependsLastDigit digits
-    by_last = record { one = λ k m acc s. rw (lt-ltb m 10 s); more = λ k m acc s. rw (le-ltb m 10 s) }
+    by_last = record { one = λ j m acc s. rw (lt-ltb m 10 s); more = λ j m acc s. rw (le-ltb m 10 s) }
+
+pub same_numeral : (n : ℕ) → n < 2 ^ 16 → decimal n ≡ numeral n
+unfolding numeral
+same_numeral n l = same_digits 5 n (omega arith) (omega arith) (omega arith)
+
+pub same_long : (n : ℕ) → n < 2 ^ 64 → decimal n ≡ long_numeral n
+unfolding long_numeral
+same_long n l = same_digits 20 n (omega arith) (omega arith) l
 
 -- ---- digits with others before or behind them
 

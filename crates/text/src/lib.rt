@@ -1,33 +1,67 @@
-// Text put into a buffer: each function puts its text from a place on and answers the place after it.
+// Text put into a buffer, piece behind piece.
 #![tactic(auto)]
 
-ghost use Rattle.std.specs.Prelude.{[], ◌∷◌, ◌+◌, ◌≤◌, ◌<◌, length};
-ghost use Rattle.text.specs.Texts.{PutBy, numeral};
+ghost use Rattle.std.specs.Prelude.{◌≡◌, [], ◌∷◌, ◌+◌, ◌≤◌, ◌<◌, length, take};
 
 use itoa::Buffer;
 
-pub fn put_byte(out: &mut [u8], at: usize, byte: u8) -> usize
-    requires { at < length out.old }
-    ensures { PutBy out.old at (byte ∷ []) result out.new }
-{
-    out[at] = byte;
-    at + 1
+// The buffer, and how many bytes of text stand at its front.
+#[derive(Drop)]
+pub struct Text<'a> {
+    pub buffer: &'a mut [u8],
+    pub used: usize,
+    pub ghost inside: { used ≤ length buffer.now },
 }
 
-pub fn put_text(out: &mut [u8], at: usize, text: &[u8]) -> usize
-    requires { at + length text.now ≤ length out.old }
-    ensures { PutBy out.old at text.now result out.new }
-{
-    let end = at + text.len();
-    out[at..end].copy_from_slice(text);
-    end
-}
+impl<'a> Text<'a> {
+    ghost use Rattle.text.specs.Texts.{PutBy, numeral, long_numeral};
 
-// A number in decimal: one of 16 bits has at most five digits.
-pub fn put_number(out: &mut [u8], at: usize, n: u16) -> usize
-    requires { at + 5 ≤ length out.old }
-    ensures { PutBy out.old at (numeral n) result out.new × (result ≤ at + 5) }
-{
-    let mut digits = Buffer::new();
-    put_text(out, at, digits.format(n).as_bytes())
+    // The text that stands there.
+    pub fn written(&self) -> &[u8]
+        ensures { result.now ≡ take self.now.used self.now.buffer.now }
+    {
+        &self.buffer[..self.used]
+    }
+
+    // Room for so many bytes more.
+    pub fn room(&self) -> usize
+        ensures { self.now.used + result ≡ length self.now.buffer.now }
+    {
+        self.buffer.len() - self.used
+    }
+
+    pub fn put_byte(&mut self, byte: u8)
+        requires { self.old.used < length self.old.buffer.now }
+        ensures { PutBy self.old (byte ∷ []) self.new }
+    {
+        self.buffer[self.used] = byte;
+        self.used += 1;
+    }
+
+    pub fn put_text(&mut self, text: &[u8])
+        requires { self.old.used + length text.now ≤ length self.old.buffer.now }
+        ensures { PutBy self.old text.now self.new }
+    {
+        let end = self.used + text.len();
+        self.buffer[self.used..end].copy_from_slice(text);
+        self.used = end;
+    }
+
+    // A number in decimal: one of 16 bits has at most five digits.
+    pub fn put_number(&mut self, n: u16)
+        requires { self.old.used + 5 ≤ length self.old.buffer.now }
+        ensures { PutBy self.old (numeral n) self.new × (self.new.used ≤ self.old.used + 5) }
+    {
+        let mut digits = Buffer::new();
+        self.put_text(digits.format(n).as_bytes());
+    }
+
+    // One of 64 bits has at most twenty.
+    pub fn put_long(&mut self, n: u64)
+        requires { self.old.used + 20 ≤ length self.old.buffer.now }
+        ensures { PutBy self.old (long_numeral n) self.new × (self.new.used ≤ self.old.used + 20) }
+    {
+        let mut digits = Buffer::new();
+        self.put_text(digits.format(n).as_bytes());
+    }
 }
