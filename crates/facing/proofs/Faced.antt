@@ -5,6 +5,7 @@ use mathlib.Core.List.{List}
 use mathlib.Core.Option.{some as just}
 use Prim.Native.Nat.{ℕ, ◌<◌}
 use lib.ListN.{length}
+use Rattle.std.specs.Prelude.{Result, Ok, Err}
 use Rattle.theory.specs.Faces.{facing}
 use Rattle.theory.specs.Match.{clash}
 use Rattle.theory.specs.Stands.{Gathered}
@@ -14,16 +15,14 @@ use Rattle.meaning.specs.File.{table_in}
 use Rattle.meaning.specs.Calls.{faces_in}
 use Rattle.facing.specs.Faced.{ClearBy, FacedBy}
 use Rattle.facing.specs.Gathering.{GatheredBy}
-use Rattle.facing.specs.declared.faces.Facing.{Facing}
-use Rattle.facing.specs.declared.faces.Facing.TheVariants.{Clash, Clear}
 
 module _ (table : List ℕ) (cut : ℕ) (pattern heading notes : List ℕ) where
   -- LAW: a clash's place
-  pub clash-told : {r : Facing} {i : ℕ} → r ≡ Clash i → FacedBy table cut pattern heading r notes → clash (table_in table) cut (faces_in table pattern heading) ≡ just i
+  pub clash-told : {r : Result ℕ ℕ} {i : ℕ} → r ≡ Err i → FacedBy table cut pattern heading r notes → clash (table_in table) cut (faces_in table pattern heading) ≡ just i
   clash-told e f = subst (λ r. FacedBy table cut pattern heading r notes) e f
 
   -- LAW: nothing clashes
-  pub clear_told : {r : Facing} {d : ℕ} → r ≡ Clear d → FacedBy table cut pattern heading r notes → ClearBy table cut pattern heading d notes
+  pub clear_told : {r : Result ℕ ℕ} {d : ℕ} → r ≡ Ok d → FacedBy table cut pattern heading r notes → ClearBy table cut pattern heading d notes
   clear_told e f = subst (λ r. FacedBy table cut pattern heading r notes) e f
 
   module _ (r : Readable (table_in table) pattern heading) (pos : 0 < cut) {d : ℕ} (f : ClearBy table cut pattern heading d notes) where

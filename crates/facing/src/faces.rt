@@ -1,82 +1,64 @@
 // What faces the pattern's nodes in the heading.
-ghost use Rattle.std.specs.Prelude.{◌≡◌, true, false, ◌+◌, ◌*◌, ◌-◌, ◌<◌, ◌≤◌, length};
-ghost use Rattle.theory.specs.Read.{walk, ends, reading, whole};
+ghost use Rattle.std.specs.Prelude.{◌≡◌, true, ◌+◌, ◌*◌, ◌-◌, ◌<◌, ◌≤◌, length};
+ghost use Rattle.theory.specs.Read.{walk, ends};
 ghost use Rattle.theory.specs.Stands.{put_note_lem};
 ghost use Rattle.meaning.specs.File.{table_in};
-ghost use Rattle.meaning.specs.Refusals.{SoundFile};
 ghost use Rattle.degrees.specs.Rows.{Rows, RowsLaid};
 ghost use Rattle.terms.specs.Ends.{EndsIn};
 ghost use Rattle.facing.specs.Faced.{FacedBy};
 
 use crate::notes::{Note, put_note};
-use degrees::lesser;
 use degrees::rows::{degree_in_row, lay_where_worth};
-use table::read::counts_of;
+use terms::asked::Asked;
 use terms::kind::{Kind, kind_of};
 use terms::walk::end_from;
-
-#[derive(Clone, Copy)]
-pub enum Facing {
-    // the pattern's symbol at this node is not near enough to the one that faces it
-    Clash(usize),
-    // none clashes, and this is the least degree of a symbol with the one that faces it
-    Clear(u16),
-}
 
 // A clash before this node of the pattern is an early one, and does not pay for rows.
 const EARLY: usize = 8;
 
 // Notes the subterm of the heading that begins at this index, as what faces node i of the pattern; answers where it ends.
-fn note_subterm(table: &[u8], heading: &[u16], at: usize, notes: &mut [u16], i: usize) -> usize
-    requires sound_file { SoundFile table.now × EndsIn (table_in table.now) true heading.now at }
-    requires heading_len_bound { (length heading.now ≤ 1024) × (2 * i + 1 < length notes.old) }
-    ensures at_value { walk (table_in table.now) true heading.now 64 at ≡ ends result }
+fn note_subterm(asked: Asked, at: usize, notes: &mut [u16], i: usize) -> usize
+    requires stands { EndsIn (table_in asked.table.file.now) true asked.heading.now at }
+    requires room { 2 * i + 1 < length notes.old }
+    ensures at_value { walk (table_in asked.entry.table.file.now) true asked.entry.heading.now 64 at ≡ ends result }
     ensures notes_after { notes.new ≡ put_note_lem notes.old i at (result - at) }
 {
-    let end = end_from(table, heading, at);
+    let end = end_from(asked.table, asked.heading, at);
     let start = at as u16;
     let size = (end - at) as u16;
     put_note(notes, i, Note { start, size });
     end
 }
 
-// Goes along the pattern and the heading together, and notes where the subterm that faces each variable's node stands.
-pub fn face(
-    table: &[u8],
-    pattern: &[u16],
-    heading: &[u16],
-    cut: u16,
-    rows: &mut [u16],
-    notes: &mut [u16],
-) -> Facing
-    requires sound_file { SoundFile table.now × Rows table.now rows.old }
-    requires pattern_value { reading (table_in table.now) true pattern.now ≡ whole }
-    requires heading_value { reading (table_in table.now) false heading.now ≡ whole }
-    requires cut_nonzero { (0 < cut) × (2 * length pattern.now ≤ length notes.old) }
-    ensures faced_by { FacedBy table.now cut pattern.now heading.now result notes.new }
-    ensures rows_laid { RowsLaid table.now rows.old rows.new }
+// Goes along the pattern and the heading together, and notes where the subterm that faces each variable's node stands. Where no symbol clashes it gives
+// the least degree of one with the one that faces it; else the pattern's node at which one is not near enough.
+pub fn face(asked: Asked, rows: &mut [u16], notes: &mut [u16]) -> Result<u16, usize>
+    requires rows { Rows asked.table.file.now rows.old }
+    requires room { 2 * length asked.pattern.now ≤ length notes.old }
+    ensures faced_by { FacedBy asked.entry.table.file.now asked.entry.cut asked.entry.pattern.now asked.entry.heading.now result notes.new }
+    ensures rows_laid { RowsLaid asked.entry.table.file.now rows.old rows.new }
 {
-    let counts = counts_of(table);
+    let table = asked.table;
     let mut least: u16 = 1000;
     // i goes along the pattern, and this along the heading
     let mut at: usize = 0;
-    for i in 0..pattern.len() {
+    for (i, node) in asked.pattern.iter().enumerate() {
         if i == EARLY {
-            lay_where_worth(table, counts, rows, pattern.len());
+            lay_where_worth(table, rows, asked.pattern.len());
         }
-        match kind_of(counts.symbols, pattern[i]) {
+        match kind_of(table.symbols, *node) {
             Kind::Symbol(symbol) => {
-                let degree = degree_in_row(table, counts, rows, symbol, heading[at]);
-                if degree < cut {
-                    return Facing::Clash(i);
+                let degree = degree_in_row(table, rows, symbol, asked.heading[at]);
+                if degree < asked.cut {
+                    return Err(i);
                 }
-                least = lesser(least, degree);
+                least = least.min(degree);
                 at += 1;
             }
-            Kind::Variable(_) => at = note_subterm(table, heading, at, notes, i),
+            Kind::Variable(_) => at = note_subterm(asked, at, notes, i),
             // never so: a pattern has no other node
             Kind::Neither => {}
         }
     }
-    Facing::Clear(least)
+    Ok(least)
 }

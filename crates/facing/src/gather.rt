@@ -13,8 +13,8 @@ pub fn gather(pattern: &[u16], notes: &[u16], v: u16, own: &mut [u16]) -> usize
 {
     let wanted = FIRST_VARIABLE + v;
     let mut count: usize = 0;
-    for i in 0..pattern.len() {
-        if pattern[i] == wanted {
+    for (i, node) in pattern.iter().enumerate() {
+        if *node == wanted {
             put_note(own, count, note_at(notes, i));
             count += 1;
         }

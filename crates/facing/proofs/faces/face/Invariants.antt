@@ -1,6 +1,5 @@
 -- What each turn of the loop keeps.
 use mathlib.Core.Path.{◌≡◌}
-use Prim.Native.Nat.{◌≤◌}
 use lib.ListN.{length}
 use Rattle.meaning.specs.File.{table_in}
 use Rattle.degrees.specs.Rows.{RowsLaid}
@@ -9,5 +8,5 @@ use Rattle.facing.proofs.faces.face.Given as goal
 
 abbrev pub invariant-loop-i : goal.invariant-loop-i
 invariant-loop-i l =
-    (l.i ≤ length l.pattern) × (length l.rows ≡ length l.initial.rows) × (length l.notes ≡ length l.initial.notes) × RowsLaid l.table l.initial.rows l.rows
-    × Passing (table_in l.table) l.cut l.pattern l.heading l.notes l.least l.at l.i
+    (length l.rows ≡ length l.initial.rows) × (length l.notes ≡ length l.initial.notes) × RowsLaid l.asked.table.file.now l.initial.rows l.rows
+    × Passing (table_in l.asked.table.file.now) l.asked.cut l.asked.pattern.now l.asked.heading.now l.notes l.least l.at l.i
