@@ -9,94 +9,49 @@ ghost use Rattle.tables.specs.Tables.{IsTable, SymbolDegree, ArityOf, PairAt};
 
 use degrees::degree;
 use refusal::Refusal;
-use sound::{Checked, check};
-use table::read::{Pair, arity, pair_at, pair_count, symbol_count};
-
-#[derive(Clone, Copy)]
-pub enum TableAnswer {
-    Table,
-    Refused(Refusal),
-}
-
-#[derive(Clone, Copy)]
-pub enum DegreeAnswer {
-    Degree(u16),
-    Refused(Refusal),
-}
-
-#[derive(Clone, Copy)]
-pub enum ArityAnswer {
-    Arity(u8),
-    Refused(Refusal),
-}
-
-#[derive(Clone, Copy)]
-pub enum PairAnswer {
-    Listed(Pair),
-    Refused(Refusal),
-}
+use sound::check;
+use table::read::Pair;
 
 // Whether the bytes are a table.
-pub fn is_table(table: &[u8]) -> TableAnswer
+pub fn is_table(table: &[u8]) -> Result<(), Refusal>
     ensures { IsTable table.now result }
 {
-    let checked = check(table);
-    match checked {
-        Checked::Refused(why) => TableAnswer::Refused(why),
-        Checked::Sound => TableAnswer::Table,
-    }
+    check(table)?;
+    Ok(())
 }
 
 // How near two symbols are; where a number is none, which of the two.
-pub fn symbol_degree(table: &[u8], a: u16, b: u16) -> DegreeAnswer
+pub fn symbol_degree(table: &[u8], a: u16, b: u16) -> Result<u16, Refusal>
     ensures { SymbolDegree table.now a b result }
 {
-    let checked = check(table);
-    match checked {
-        Checked::Refused(why) => DegreeAnswer::Refused(why),
-        Checked::Sound => {
-            let symbols = symbol_count(table);
-            if a >= symbols {
-                return DegreeAnswer::Refused(Refusal::NoSymbol(0));
-            }
-            if b >= symbols {
-                return DegreeAnswer::Refused(Refusal::NoSymbol(1));
-            }
-            DegreeAnswer::Degree(degree(table, a, b))
-        }
+    let table = check(table)?; // the table's own fault comes first
+    if a >= table.symbols {
+        return Err(Refusal::NoSymbol(0));
     }
+    if b >= table.symbols {
+        return Err(Refusal::NoSymbol(1));
+    }
+    Ok(degree(table, a, b))
 }
 
 // How many arguments a symbol takes.
-pub fn arity_of(table: &[u8], symbol: u16) -> ArityAnswer
+pub fn arity_of(table: &[u8], symbol: u16) -> Result<u8, Refusal>
     ensures { ArityOf table.now symbol result }
 {
-    let checked = check(table);
-    match checked {
-        Checked::Refused(why) => ArityAnswer::Refused(why),
-        Checked::Sound => {
-            if symbol < symbol_count(table) {
-                ArityAnswer::Arity(arity(table, symbol))
-            } else {
-                ArityAnswer::Refused(Refusal::Absent)
-            }
-        }
+    let table = check(table)?;
+    if symbol >= table.symbols {
+        return Err(Refusal::Absent);
     }
+    Ok(table.arity(symbol))
 }
 
 // The pair that stands at an index of the table's list.
-pub fn pair_of(table: &[u8], index: usize) -> PairAnswer
+pub fn pair_of(table: &[u8], index: usize) -> Result<Pair, Refusal>
     ensures { PairAt table.now index result }
 {
-    let checked = check(table);
-    match checked {
-        Checked::Refused(why) => PairAnswer::Refused(why),
-        Checked::Sound => {
-            if index < pair_count(table) as usize {
-                PairAnswer::Listed(pair_at(table, index))
-            } else {
-                PairAnswer::Refused(Refusal::Absent)
-            }
-        }
+    let table = check(table)?;
+    if index >= table.pairs as usize {
+        return Err(Refusal::Absent);
     }
+    Ok(table.pair(index))
 }

@@ -3,39 +3,34 @@ use mathlib.Core.Path.{ap, sym, ◌∙◌}
 use mathlib.Core.List.{[], ◌∷◌}
 use Prim.Native.Nat.{◌<◌}
 use native.Mathlib.Omega.{arith}
-use Rattle.meaning.specs.File.{symbol_count_lem}
+use Rattle.std.proofs.lemmas.Result.{err_from_is_err_and}
+use Rattle.meaning.specs.File.{table_in}
 use Rattle.meaning.specs.Refusals.{table_rows, row14}
 use Rattle.meaning.specs.Calls.{gives, back_rows, arity_back}
 use Rattle.meaning.proofs.Back.{reads_back}
 use Rattle.table.proofs.Reading.{size_is, arity_is}
-use Rattle.sound.proofs.Checks.{sound_by, refused_by_lem, says_early}
+use Rattle.sound.proofs.Checks.{says_early}
 use Rattle.tables.proofs.arity_of.Goals as goal
 
-pub symbol_count-requires : goal.symbol_count-requires
-symbol_count-requires c =
-    let t = c.args.table.now in
-    sound_by t c.check-checked.result c.check-checked.ensures c.in-Sound.is
-
-pub arity-requires : goal.arity-requires
-arity-requires c =
-    let t = c.args.table.now in
-    (sound_by t c.check-checked.result c.check-checked.ensures c.in-Sound.is, omega (arith, c.symbol_count.ensures.0))
-
-pub returns-in-Refused : goal.returns-in-Refused
+pub returns-in_err-table : goal.returns-in_err-table
 unfolding back_rows arity_back
-returns-in-Refused c =
+returns-in_err-table c =
     let t = c.args.table.now in
-    says_early _ c.in-Refused.why (table_rows t) (row14 c.args.symbol _ ∷ []) (refused_by_lem t c.check-checked.result c.check-checked.ensures c.in-Refused.why c.in-Refused.is)
+    let p = err_from_is_err_and c.from_residual.result c.from_residual.ensures.1 in
+    rw (p.1, p.2) (says_early _ _ (table_rows t) (row14 c.args.symbol _ ∷ []) (sym c.in_err-table.ensures.checked))
 
-pub returns-then-symbol-symbol_count : goal.returns-then-symbol-symbol_count
-returns-then-symbol-symbol_count c =
-    let t = c.args.table.now in
-    let s = sound_by t c.check-checked.result c.check-checked.ensures c.in-Sound.is in
-    let l : c.args.symbol < symbol_count_lem t = omega (arith, c.symbol_count.ensures.0, size_is t s) in
-    ap gives (c.arity.ensures.0 ∙ arity_is t s c.args.symbol (omega (arith, size_is t s))) ∙ sym ((reads_back t s).arity c.args.symbol l)
+pub returns-then-symbol-table : goal.returns-then-symbol-table
+returns-then-symbol-table c =
+    let t = c.in_ok-table.table in
+    let f = t.file.now in
+    sym ((reads_back f t.sound).no_symbol c.args.symbol (omega (arith, t.symbols_are, size_is f t.sound)))
+    ∙ ap (λ f. arity_back f c.args.symbol) c.in_ok-table.ensures.same_file
 
-pub returns-else-symbol-symbol_count : goal.returns-else-symbol-symbol_count
-returns-else-symbol-symbol_count c =
-    let t = c.args.table.now in
-    let s = sound_by t c.check-checked.result c.check-checked.ensures c.in-Sound.is in
-    sym ((reads_back t s).no_symbol c.args.symbol (omega (arith, c.symbol_count.ensures.0, size_is t s)))
+pub returns : goal.returns
+returns c =
+    let t = c.in_ok-table.table in
+    let f = t.file.now in
+    let l : c.args.symbol < (table_in f).size = omega (arith, t.symbols_are) in
+    ap gives (c.arity.ensures.0 ∙ arity_is f t.sound c.args.symbol l)
+    ∙ sym ((reads_back f t.sound).arity c.args.symbol (omega (arith, size_is f t.sound)))
+    ∙ ap (λ f. arity_back f c.args.symbol) c.in_ok-table.ensures.same_file

@@ -1,13 +1,17 @@
 -- The call says what the check of the table found.
+use mathlib.Core.Path.{sym}
+use Rattle.std.proofs.lemmas.Result.{err_from_is_err_and}
 use Rattle.meaning.specs.Refusals.{table_rows}
 use Rattle.meaning.specs.Calls.{aye, is_table_lem}
-use Rattle.sound.proofs.Checks.{sound_by, refused_by_lem, says}
+use Rattle.sound.proofs.Checks.{says}
 use Rattle.tables.proofs.is_table.Goals as goal
 
-pub returns-in-Refused : goal.returns-in-Refused
+pub returns-in_err-check : goal.returns-in_err-check
 unfolding is_table_lem
-returns-in-Refused c = let t = c.args.table.now in says aye c.in-Refused.why (table_rows t) (refused_by_lem t c.check-checked.result c.check-checked.ensures c.in-Refused.why c.in-Refused.is)
+returns-in_err-check c =
+    let p = err_from_is_err_and c.from_residual.result c.from_residual.ensures.1 in
+    rw (p.1, p.2) (says aye _ (table_rows c.args.table.now) (sym c.in_err-check.ensures.checked))
 
-pub returns-in-Sound : goal.returns-in-Sound
+pub returns : goal.returns
 unfolding is_table_lem
-returns-in-Sound c = let t = c.args.table.now in rw (sound_by t c.check-checked.result c.check-checked.ensures c.in-Sound.is)
+returns c = rw (sym c.in_ok-check.ensures.checked)
