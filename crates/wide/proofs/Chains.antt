@@ -20,8 +20,8 @@ use Rattle.meaning.proofs.First.{last_here, last_before}
 use Rattle.degrees.specs.Rows.{Rows, RowsLaid}
 use Rattle.degrees.proofs.Listed.{pair_symbols}
 use Rattle.degrees.proofs.Narrowing.{rows_anywhere}
+use Rattle.wide.proofs.Written.{Written}
 use Rattle.wide.specs.Index.{last_with, kept_rows, linked_at, heads_at, links_at, tags_at, index_room, Linked, Index, Chained}
-use Rattle.wide.specs.Laid.{Cleared}
 
 -- ---- an index that changes
 
@@ -115,14 +115,14 @@ module _ (file : List ℕ) (ok : SoundFile file) (index : List ℕ) (room : inde
 -- ---- the mark
 
 module _ (file : List ℕ) (ok : SoundFile file) (mark tags : ℕ) (mark_is : mark ≡ linked_at file) (tags_are : tags ≡ tags_at file) (laid index : List ℕ)
-    (long : length index ≡ length laid) (room : index_room file ≤ length index) (cleared : Cleared tags (tags + kept_rows) laid index) where
+    (long : length index ≡ length laid) (room : index_room file ≤ length index) (cleared : Written tags kept_rows (zeros kept_rows) laid index) where
   -- what stands before the tags and is not the mark
   before_tags : (i : ℕ) → i < tags_at file → (i ≡ mark → ⊥) → get_or (set index mark 1) i 0 ≡ get_or laid i 0
-  before_tags i l n = get_or-set_other index mark i 1 0 n ∙ cleared.same i (omega arith)
+  before_tags i l n = get_or-set_other index mark i 1 0 n ∙ cleared.same_before i (omega arith)
 
   -- the tags
   no_tag : (slot : ℕ) → slot < kept_rows → get_or (set index mark 1) (tags_at file + slot) 0 ≡ 0
-  no_tag slot l = get_or-set_other index mark (tags_at file + slot) 1 0 (λ e. omega arith) ∙ cleared.zero (tags_at file + slot) (omega arith) (omega arith)
+  no_tag slot l = get_or-set_other index mark (tags_at file + slot) 1 0 (λ e. omega arith) ∙ rw (tags_are) at (cleared.there slot l) ∙ get_or_zeros kept_rows slot
 
   -- LAW: rows and chains are laid out, the tags are cleared, so that they tell no symbol, and the mark is set
   pub marked : Rows file laid → Linked file (pair_count_lem file) laid → Chained file (set index mark 1)

@@ -12,7 +12,8 @@ use lib.Seq.{get_or-set_same, get_or-set_other}
 use Rattle.meaning.specs.File.{table_in}
 use Rattle.meaning.specs.Refusals.{SoundFile}
 use Rattle.wide.specs.Index.{kept_rows, small_table, tags_at, row_at, index_room, Chained, DegreesFrom, Kept}
-use Rattle.wide.specs.Laid.{Copied, DegreesOf}
+use Rattle.wide.specs.Laid.{DegreesOf}
+use Rattle.wide.proofs.Written.{Written}
 use Rattle.wide.proofs.Chains.{rows_kept, linked_kept}
 
 -- ---- places
@@ -29,7 +30,7 @@ place_within file index big room slot l = omega (arith, rw (lt-leb (table_in fil
 -- ---- one symbol more
 
 module _ (file : List ℕ) (ok : SoundFile file) (a tag from : ℕ) (tag_is : tag ≡ tags_at file + a % kept_rows) (from_is : from ≡ row_at file (a % kept_rows))
-    (row index copied : List ℕ) (degrees : DegreesOf file a row) (copy : Copied from (table_in file).size row index copied) (inside : tag < length copied) where
+    (row index copied : List ℕ) (degrees : DegreesOf file a row) (copy : Written from (table_in file).size row index copied) (inside : tag < length copied) where
   -- the list with the symbol's tag
   abbrev tagged : List ℕ
   tagged = set copied tag (a + 1)
@@ -40,7 +41,7 @@ module _ (file : List ℕ) (ok : SoundFile file) (a tag from : ℕ) (tag_is : ta
 
   -- what stands before its place and is not its tag
   before_place : (i : ℕ) → i < from → (i ≡ tag → ⊥) → get_or tagged i 0 ≡ get_or index i 0
-  before_place i l n = get_or-set_other copied tag i (a + 1) 0 n ∙ copy.same-before i l
+  before_place i l n = get_or-set_other copied tag i (a + 1) 0 n ∙ copy.same_before i l
 
   -- .. and behind it
   behind_place : (i : ℕ) → from + (table_in file).size ≤ i → get_or tagged i 0 ≡ get_or index i 0

@@ -9,7 +9,8 @@ use native.Mathlib.Omega.{arith}
 use lib.ListN.{length, get_or, set, length-set}
 use lib.Seq.{get_or-set_same, get_or-set_other}
 use Rattle.theory.specs.Table.{Table}
-use Rattle.meaning.specs.File.{pair_count_lem, table_in}
+use Rattle.theory.specs.Pairs.{pair}
+use Rattle.meaning.specs.File.{pair_count_lem, pairs_in, table_in}
 use Rattle.meaning.specs.Tables.{lower_at, higher_at, degree_at}
 use Rattle.meaning.specs.Refusals.{SoundFile}
 use Rattle.meaning.proofs.Sound.{sound}
@@ -19,6 +20,11 @@ use Rattle.meaning.proofs.Recognised.{recognised}
 use Rattle.table.proofs.Reading.{size_is}
 use Rattle.degrees.proofs.Listed.{same_symbols, degree_missed}
 use Rattle.wide.specs.Laid.{Joins, Laid, InRow}
+
+-- LAW: a pair that is read is the one that is listed
+pub read : (file : List ℕ) (k : ℕ) {l h d : ℕ} → k < pair_count_lem file → pair l h d ≡ get_or (pairs_in file) k (pair 0 0 0)
+    → (l ≡ lower_at file k) × (h ≡ higher_at file k) × (d ≡ degree_at file k)
+read file k l e = let is = e ∙ pair_in_lem file k l in (cc, cc, cc)
 
 module _ (file : List ℕ) (ok : SoundFile file) (a : ℕ) where
   abbrev T : Table

@@ -2,5 +2,6 @@
 pub mod Chains
 mod Laying
 mod Walking
+mod Written
 mod Sharing
 mod Keeping

@@ -9,8 +9,8 @@ use native.Mathlib.Omega.{arith}
 use borrow.Author.Tests.{eqb-true, eqb-false}
 use lib.Dec.{eqb}
 use lib.ListN.{length, get_or, set}
-use Rattle.meaning.specs.File.{number, pair_count_lem, table_in}
-use Rattle.meaning.specs.Tables.{pair_start, lower_at, higher_at, degree_at}
+use Rattle.meaning.specs.File.{pair_count_lem, table_in}
+use Rattle.meaning.specs.Tables.{lower_at, higher_at, degree_at}
 use Rattle.meaning.specs.Refusals.{SoundFile}
 use Rattle.meaning.proofs.First.{Last, last_below_lem}
 use Rattle.degrees.specs.Rows.{Rows}
@@ -27,10 +27,8 @@ module _ (file : List ℕ) (a : ℕ) where
     pub none_before : (j : ℕ) → j < pair_count_lem file → InRow file a j → low ≤ j
     pub none_skipped : (j : ℕ) → high ≤ j → j < pair_count_lem file → InRow file a j → InRow file a high
 
-  -- the walk stands before pair k of the file, whose bytes begin at `at`: the pairs of a's row before it are laid out
-  pub record RowTo (at : ℕ) (row : List ℕ) : Type 0 where
-    pub k : ℕ
-    pub at_is : at ≡ pair_start file k
+  -- the walk stands before pair k of the file: the pairs of a's row before it are laid out
+  pub record RowTo (k : ℕ) (row : List ℕ) : Type 0 where
     pub laid : Laid file a (λ j. InRow file a j × (j < k)) row
     pub none_skipped : (j : ℕ) → k ≤ j → j < pair_count_lem file → InRow file a j → InRow file a k
 
@@ -94,42 +92,29 @@ module _ (file : List ℕ) (ok : SoundFile file) (a : ℕ) where
 
   -- LAW: before its first pair
   pub row_first : (k : ℕ) (row : List ℕ) → RowFrom file a k → (table_in file).size ≤ length row → ((s : ℕ) → s < (table_in file).size → get_or row s 0 ≡ 0)
-      → (at : ℕ) → at ≡ pair_start file k → RowTo file a at row
-  row_first k row from room cleared at e =
+      → RowTo file a k row
+  row_first k row from room cleared =
       record {
-        k = k;
-        at_is = e;
         laid = laid_none file ok a _ row room cleared (λ j l seen. omega (arith, from.none_before j l seen.0, seen.1));
         none_skipped = from.none_skipped;
       }
 
-  module _ (at : ℕ) (row : List ℕ) (to : RowTo file a at row) where
+  module _ (k : ℕ) (row : List ℕ) (to : RowTo file a k row) where
     -- LAW: from a pair of the row to the next pair
-    pub row_next : (s d : ℕ) → at < pair_start file (pair_count_lem file) → number file at ≡ a → s ≡ number file (at + 2) → d ≡ number file (at + 4)
-        → RowTo file a (at + 6) (set row s d)
-    row_next s d before lower higher degree =
+    pub row_next : k < pair_count_lem file → lower_at file k ≡ a → RowTo file a (k + 1) (set row (higher_at file k) (degree_at file k))
+    row_next l own =
         record {
-          k = to.k + 1;
-          at_is = omega (arith, to.at_is);
-          laid = rw (higher ∙ ap (λ (i : ℕ). number file (i + 2)) to.at_is, degree ∙ ap (λ (i : ℕ). number file (i + 4)) to.at_is)
-              (laid_more file ok a to.laid to.k (higher_at file to.k) l (pair_symbols file ok to.k l).1 (inl (own, refl)) (λ j m n then. (then.0, omega (arith, then.1))));
-          none_skipped = λ j m u later. omega (arith, own, rising to.k (to.k + 1) (omega arith) (omega arith), rising (to.k + 1) j m u);
+          laid = laid_more file ok a to.laid k (higher_at file k) l (pair_symbols file ok k l).1 (inl (own, refl)) (λ j m n then. (then.0, omega (arith, then.1)));
+          none_skipped = λ j m u later. omega (arith, own, rising k (k + 1) (omega arith) (omega arith), rising (k + 1) j m u);
         }
-      where
-        l : to.k < pair_count_lem file
-        l = omega (arith, to.at_is)
-
-        own : lower_at file to.k ≡ a
-        own = ap (number file) (inv to.at_is) ∙ lower
 
     -- LAW: behind the row, as pair k is not one of it, or there is none
-    pub row_end : (pair_start file (pair_count_lem file) ≤ at) ⊎ (number file at ≡ a → ⊥) → Laid file a (InRow file a) row
-    row_end past = laid_as file ok a to.laid (λ j l own. (own, before j l own (dec_lt j to.k)))
+    pub row_end : (pair_count_lem file ≤ k) ⊎ (lower_at file k ≡ a → ⊥) → Laid file a (InRow file a) row
+    row_end past = laid_as file ok a to.laid (λ j l own. (own, before j l own (dec_lt j k)))
       where
-        before : (j : ℕ) → j < pair_count_lem file → InRow file a j → Dec (j < to.k) → j < to.k
+        before : (j : ℕ) → j < pair_count_lem file → InRow file a j → Dec (j < k) → j < k
         before j l own (yes v) = v
-        before j l own (no v) =
-            absurd (⊎_elim (λ e. omega (arith, to.at_is)) (λ n. n (ap (number file) to.at_is ∙ to.none_skipped j (omega arith) l own)) past)
+        before j l own (no v) = absurd (⊎_elim (λ e. omega arith) (λ n. n (to.none_skipped j (omega arith) l own)) past)
 
   -- ---- along the chain
 

@@ -1,18 +1,7 @@
 -- What a list of numbers has of the degrees of symbol a, a number for each symbol.
-use Rattle.std.specs.Prelude.{◌≡◌, ◌⊎◌, List, ℕ, ◌+◌, ◌≤◌, ◌<◌, length, get_or}
+use Rattle.std.specs.Prelude.{◌≡◌, ◌⊎◌, List, ℕ, ◌≤◌, ◌<◌, length, get_or}
 use Rattle.meaning.specs.File.{pair_count_lem, table_in}
 use Rattle.meaning.specs.Tables.{lower_at, higher_at}
-
--- Zeros stand from index `from` to below index `to`, and before them all is as it was.
-pub record Cleared (from to : ℕ) (before after : List ℕ) : Type 0 where
-  pub zero : (i : ℕ) → from ≤ i → i < to → get_or after i 0 ≡ 0
-  pub same : (i : ℕ) → i < from → get_or after i 0 ≡ get_or before i 0
-
--- The first n numbers of a row stand from index `from` on, and all else is as it was.
-pub record Copied (from n : ℕ) (row before after : List ℕ) : Type 0 where
-  pub there : (s : ℕ) → s < n → get_or after (from + s) 0 ≡ get_or row s 0
-  pub same-before : (i : ℕ) → i < from → get_or after i 0 ≡ get_or before i 0
-  pub same_behind : (i : ℕ) → from + n ≤ i → get_or after i 0 ≡ get_or before i 0
 
 -- pair k stands in a's row
 abbrev pub InRow : List ℕ → ℕ → ℕ → Type 0

@@ -1,21 +1,22 @@
 -- The least row has what each symbol shares, and its lowest and highest are rated.
-use native.Mathlib.Omega.{arith}
+use Rattle.std.proofs.Common.{rules, arith, ◌≡◌, length, ◌∙◌}
 use lib.ListN.{get_or-replicate}
+use lib.Seq.{get_or-take}
 use Rattle.meaning.specs.Limits.{set_room}
-use Rattle.meaning.specs.File.{table_in}
+use Rattle.table.specs.Sound.{table_of}
 use Rattle.wide.specs.Shared.{shared_by_lem}
 use Rattle.wide.proofs.wide_degrees.Goals as goal
 
-pub lower_to_shared-requires : goal.lower_to_shared-requires
-lower_to_shared-requires c =
-    let counted = c.counts_of-counts.ensures in
-    record { counted = (counted, c.link_pairs.ensures, c.requires.2, omega (arith, counted.few, counted.symbols_are)); by_index = λ t l. get_or-replicate set_room t 1000 0 (omega (arith, counted.few, counted.symbols_are)) }
+pub lower_to_shared-requires-clause-whole : goal.lower_to_shared-requires-clause-whole
+lower_to_shared-requires-clause-whole c =
+    let t = c.args.table in
+    (search rules, λ s l. get_or-take t.symbols _ s 0 (omega (arith, t.symbols_are)) ∙ get_or-replicate set_room s 1000 0 (omega (arith, t.symbols_are, t.few)))
 
 pub returns : goal.returns
 returns c =
-    let file = c.args.file.now in
-    let counted = c.counts_of-counts.ensures in
-    let lowered = c.lower_to_shared.ensures in
-    let rated = c.rate.ensures (shared_by_lem (table_in file) c.args.faced.words) (λ t l. lowered.by_index_2 t (omega (arith, counted.symbols_are))) in
-    let both = rw counted.symbols_are at rated in
-    record { index = lowered.chained.0; lowest_value = both.0; highest_value = both.1 }
+    let t = c.args.table in
+    let lowered = c.lower_to_shared in
+    let long : length lowered.new.least ≡ (table_of t).size = search rules in
+    let rated = c.rate.ensures (shared_by_lem (table_of t) c.args.faced.words) (λ s l. lowered.ensures.shared s (omega (arith, long))) in
+    let both = rw long at rated in
+    record { index = lowered.ensures.chained.0; lowest_value = both.0; highest_value = both.1 }

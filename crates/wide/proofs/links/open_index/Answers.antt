@@ -1,9 +1,14 @@
 -- The front of the list is zeros then, and the mark is one of them.
-use native.Mathlib.Omega.{arith}
+use Rattle.std.proofs.Common.{rules, ◌≡◌, length, take}
+use Rattle.std.proofs.lemmas.List.{places}
+use Rattle.meaning.specs.Calls.{zeros}
 use Rattle.wide.proofs.Chains.{opened}
 use Rattle.wide.proofs.links.open_index.Goals as goal
 
 pub returns : goal.returns
 returns c =
-    let cleared = c.clear in
-    opened c.args.file.now c.requires.0 cleared.new.list (omega (arith, c.requires.1, cleared.auto.list)) (λ i l. cleared.ensures.zero i (omega arith) (omega arith))
+    let t = c.args.table in
+    let index = c.args.index.now in
+    let front : c.fill.new.self ≡ zeros (length (take c.heads.result index)) = c.fill.ensures.after (search rules) in
+    let heads = c.heads.ensures in
+    opened t.file.now t.sound _ (rw front (search (rules, places))) (λ i l. rw front (search (rules, places)))
