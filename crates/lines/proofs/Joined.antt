@@ -15,6 +15,7 @@ use Rattle.meaning.specs.Limits.{word_bits, set_words_lem, set_room}
 use Rattle.meaning.specs.Buffers.{bit, member, holds}
 use Rattle.meaning.specs.Program.{digits, decimal, line}
 use Rattle.sets.specs.Words.{NoneBetween}
+use Rattle.text.specs.declared.Text.{Text}
 use Rattle.text.specs.Texts.{PutBy, numeral}
 use Rattle.lines.specs.Lines.{symbols_line}
 use Rattle.text.proofs.Puts.{put_then, digits_front}
@@ -84,12 +85,12 @@ module _ (sets : List ℕ) (p : ℕ) where
   symbols_more k e = rw (add-one k, e) (one_more (collect k (holds sets p)) k)
 
   -- LAW: a symbol that is in the set is one field more
-  pub put_symbol : {a b d : List ℕ} {start at n : ℕ} (k : ℕ) → holds sets p k ≡ true → PutBy a start (symbols_below sets p k) at b
-      → PutBy b at (cond (eqb at start) (numeral k) (32 ∷ numeral k)) n d → length b ≡ length a → PutBy a start (symbols_below sets p (k + 1)) n d
-  put_symbol {a} {b} {d} {start} {at} {n} k h q r l =
+  pub put_symbol : {a b d : Text} (start k : ℕ) → a.used ≡ start → holds sets p k ≡ true → PutBy a (symbols_below sets p k) b
+      → PutBy b (cond (eqb b.used start) (numeral k) (32 ∷ numeral k)) d → PutBy a (symbols_below sets p (k + 1)) d
+  put_symbol {a} {b} {d} start k s h q r =
       let text = symbols_below sets p k in
-      let e : eqb at start ≡ eqb (length text) 0 = first_here start at (length text) q.ends in
-      rw (symbols_more k h) (subst (λ z. PutBy a start (text ++ cond z (numeral k) (32 ∷ numeral k)) n d) e (put_then q r l))
+      let e : eqb b.used start ≡ eqb (length text) 0 = first_here start b.used (length text) (omega (arith, q.ends)) in
+      rw (symbols_more k h) (subst (λ z. PutBy a (text ++ cond z (numeral k) (32 ∷ numeral k)) d) e (put_then q r))
 
   -- any other is passed over
   symbols_same : (k : ℕ) → holds sets p k ≡ false → symbols_below sets p (k + 1) ≡ symbols_below sets p k

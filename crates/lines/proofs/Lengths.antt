@@ -14,11 +14,13 @@ use Rattle.meaning.specs.Limits.{set_room, variable_count}
 use Rattle.meaning.specs.Buffers.{first_position_lem, position_count_lem, own_lowest_lem, own_highest_lem, holds}
 use Rattle.meaning.specs.Refusals.{number_of, place_of}
 use Rattle.meaning.specs.Program.{digits, decimal, line, match_word, refused_word, variable_word, variable_lines}
-use Rattle.refusal.specs.declared.Outcome.{Outcome}
-use Rattle.refusal.specs.declared.Outcome.TheVariants.{Match, Refused}
+use Rattle.std.specs.Prelude.{Result, Ok, Err}
+use Rattle.refusal.specs.declared.Degrees.{Degrees}
+use Rattle.refusal.specs.declared.Refusal.{Refusal}
 use Rattle.refusal.specs.Told.{told}
 use Rattle.refusal.specs.Outcomes.{result_of}
-use Rattle.lines.specs.Lines.{line_room, text_in, outcome_line, variable_line, symbols_line, upward, following, positions_from, rest_at, Spanned}
+use Rattle.lines.specs.Lines.{line_room, text_in, outcome_line, variable_line, symbols_line, upward, following, positions_from, rest_at}
+use Rattle.lines.specs.Spans.{Spanned}
 use Rattle.lines.specs.Lengths.{most_positions, most_sets, most_text}
 use Rattle.lines.proofs.Rest.{some_lines, no_lines, rest_start}
 
@@ -48,10 +50,10 @@ line_short [] = omega arith
 line_short (f ∷ []) = omega (arith, length-append f (10 ∷ []))
 line_short (f ∷ g ∷ fs) = omega (arith, length-append f (32 ∷ line (g ∷ fs)), line_short (g ∷ fs))
 
-outcome_short : (outcome : Outcome) → length (outcome_line outcome) ≤ line_room
+outcome_short : (outcome : Result Degrees Refusal) → length (outcome_line outcome) ≤ line_room
 unfolding outcome_line
-outcome_short (Match low high) = omega (arith, line_short (match_word ∷ decimal low ∷ decimal high ∷ []), decimal_short low, decimal_short high)
-outcome_short (Refused why) =
+outcome_short (Ok d) = omega (arith, line_short (match_word ∷ decimal d.lowest ∷ decimal d.highest ∷ []), decimal_short d.lowest, decimal_short d.highest)
+outcome_short (Err why) =
     let n = number_of (told why) in
     let place = place_of (told why) in
     omega (arith, line_short (refused_word ∷ decimal n ∷ decimal place ∷ []), decimal_short n, decimal_short place)
@@ -89,7 +91,7 @@ upward_short f b i zero short = omega arith
 upward_short f b i (suc n) short =
     omega (arith, length-append (f i) (upward (suc i) n f), short i (omega arith), upward_short f b (suc i) n (λ j l. short j (omega arith)), suc-mul n b)
 
-module _ (outcome : Outcome) (spans sets : List ℕ) (spanned : Spanned spans sets) (few : length sets ≤ most_sets) where
+module _ (outcome : Result Degrees Refusal) (spans sets : List ℕ) (spanned : Spanned spans sets) (few : length sets ≤ most_sets) where
   lines_short : (v : ℕ) → v < variable_count → length (variable_lines (result_of outcome spans sets) v) ≤ line_room * (1 + most_positions)
   lines_short v l = go (dec_lt 0 (position_count_lem spans v))
     where
@@ -102,13 +104,13 @@ module _ (outcome : Outcome) (spans sets : List ℕ) (spanned : Spanned spans se
       go (no m) = omega (arith, ap length (no_lines outcome spans sets v (omega arith)))
 
 -- LAW: no answer is longer
-pub text_short : (outcome : Outcome) (spans sets : List ℕ) → Spanned spans sets → length sets ≤ most_sets → length (text_in (result_of outcome spans sets)) ≤ most_text
+pub text_short : (outcome : Result Degrees Refusal) (spans sets : List ℕ) → Spanned spans sets → length sets ≤ most_sets → length (text_in (result_of outcome spans sets)) ≤ most_text
 unfolding rest_at
-text_short (Match low high) spans sets spanned few =
-    let r = result_of (Match low high) spans sets in
-    let own = outcome_line (Match low high) in
-    let rest = following (Match low high) spans sets in
-    let all = upward_short (variable_lines r) (line_room * (1 + most_positions)) 0 variable_count (λ v l. lines_short (Match low high) spans sets spanned few v (omega arith)) in
-    omega (arith, ap length (rest_start (Match low high) spans sets), length-append own rest, outcome_short (Match low high), all)
-text_short (Refused why) spans sets spanned few =
-    omega (arith, ap length (rest_start (Refused why) spans sets), length-append (outcome_line (Refused why)) [], outcome_short (Refused why))
+text_short (Ok d) spans sets spanned few =
+    let r = result_of (Ok d) spans sets in
+    let own = outcome_line (Ok d) in
+    let rest = following (Ok d) spans sets in
+    let all = upward_short (variable_lines r) (line_room * (1 + most_positions)) 0 variable_count (λ v l. lines_short (Ok d) spans sets spanned few v (omega arith)) in
+    omega (arith, ap length (rest_start (Ok d) spans sets), length-append own rest, outcome_short (Ok d), all)
+text_short (Err why) spans sets spanned few =
+    omega (arith, ap length (rest_start (Err why) spans sets), length-append (outcome_line (Err why)) [], outcome_short (Err why))

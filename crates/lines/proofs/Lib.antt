@@ -4,7 +4,6 @@
 pub mod Joined
 -- from line to line
 pub mod Seeking
-pub mod Putting
 pub mod Rest
 pub mod Lengths
 pub mod Turns

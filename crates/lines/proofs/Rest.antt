@@ -18,12 +18,13 @@ use Rattle.meaning.specs.Refusals.{Refusal, refusal, number_of, place_of}
 use Rattle.meaning.specs.Calls.{Matched, refused_as}
 use Rattle.meaning.specs.Buffers.{first_position_lem, position_count_lem, own_lowest_lem, own_highest_lem, holds}
 use Rattle.meaning.specs.Program.{decimal, match_word, refused_word, variable_word, variable_lines, refused_text, text_of}
-use Rattle.refusal.specs.declared.Outcome.{Outcome}
-use Rattle.refusal.specs.declared.Outcome.TheVariants.{Match, Refused}
+use Rattle.std.specs.Prelude.{Option, None, Some, Result, Ok, Err}
+use Rattle.refusal.specs.declared.Degrees.{Degrees}
+use Rattle.refusal.specs.declared.Refusal.{Refusal as Why}
 use Rattle.refusal.specs.Told.{told}
 use Rattle.refusal.specs.Outcomes.{result_of}
 use Rattle.lines.specs.declared.line.Cursor.{Cursor}
-use Rattle.lines.specs.declared.line.Cursor.TheVariants.{First, Variable, Position, End}
+use Rattle.lines.specs.declared.line.Cursor.TheVariants.{First, Variable, Position}
 use Rattle.lines.specs.Lines.{
   text_in,
   outcome_line,
@@ -67,11 +68,11 @@ module _ (f : ℕ → List ℕ) where
       let s : suc i ≡ i + 1 = omega arith in
       rw e (ap (λ j. f i ++ upward j (n - (i + 1)) f) s)
 
-module _ (outcome : Outcome) (spans sets : List ℕ) where
+module _ (outcome : Result Degrees Why) (spans sets : List ℕ) where
   abbrev r : Matched
   r = result_of outcome spans sets
 
-  abbrev rest : Cursor → List ℕ
+  abbrev rest : Option Cursor → List ℕ
   rest = rest_at outcome spans sets
 
   -- the lines of a variable that has positions, and of one that has none
@@ -95,7 +96,7 @@ module _ (outcome : Outcome) (spans sets : List ℕ) where
       count = position_count_lem spans v
 
       found : Bool → List ℕ
-      found empty = rest (cond empty (seek_in spans (suc v) n) (Variable v))
+      found empty = rest (cond empty (seek_in spans (suc v) n) (Some (Variable v)))
 
       go : Dec (0 < count) → upward (suc v) n (variable_lines r) ≡ rest (seek_in spans (suc v) n) → upward v (suc n) (variable_lines r) ≡ found (eqb count 0)
       go (yes l) later =
@@ -116,7 +117,7 @@ module _ (outcome : Outcome) (spans sets : List ℕ) where
       count = position_count_lem spans v
 
       after : Bool → List ℕ
-      after more = rest (cond more (Position v (k + 1)) (seek_from spans (v + 1)))
+      after more = rest (cond more (Some (Position v (k + 1))) (seek_from spans (v + 1)))
 
       go : Dec (k + 1 < count) → positions_from spans sets v (k + 1) ++ variables_from r (v + 1) ≡ after (ltb (k + 1) count)
       go (yes m) = ap after (sym (lt-ltb (k + 1) count m))
@@ -125,40 +126,40 @@ module _ (outcome : Outcome) (spans sets : List ℕ) where
           let f : ℕ → List ℕ = λ i. symbols_line sets (first_position_lem spans v + i) in
           ap (λ n. upward (k + 1) n f ++ variables_from r (v + 1)) no_more ∙ rest_from (v + 1) (omega arith) ∙ ap after (sym (le-ltb (k + 1) count (omega arith)))
 
-rest_first : (outcome : Outcome) (spans sets : List ℕ) → following outcome spans sets ≡ rest_at outcome spans sets (after_outcome_lem outcome spans)
+rest_first : (outcome : Result Degrees Why) (spans sets : List ℕ) → following outcome spans sets ≡ rest_at outcome spans sets (after_outcome_lem outcome spans)
 unfolding after_outcome_lem rest_at
-rest_first (Match low high) spans sets = rest_from (Match low high) spans sets 0 (omega arith)
-rest_first (Refused why) spans sets = refl
+rest_first (Ok d) spans sets = rest_from (Ok d) spans sets 0 (omega arith)
+rest_first (Err why) spans sets = refl
 
-module _ (outcome : Outcome) (spans sets : List ℕ) where
+module _ (outcome : Result Degrees Why) (spans sets : List ℕ) where
   -- LAW: the line at a cursor, and then what is left at the next one
-  pub rest_next : (cursor : Cursor) → OnLine spans cursor → rest_at outcome spans sets cursor ≡ line_at outcome spans sets cursor ++ rest_at outcome spans sets (next_cursor outcome spans cursor)
+  pub rest_next : (cursor : Option Cursor) → OnLine spans cursor → rest_at outcome spans sets cursor ≡ line_at outcome spans sets cursor ++ rest_at outcome spans sets (next_cursor outcome spans cursor)
   unfolding line_at next_cursor rest_at
-  rest_next First on = ap (λ t. outcome_line outcome ++ t) (rest_first outcome spans sets)
-  rest_next (Variable v) on =
+  rest_next (Some First) on = ap (λ t. outcome_line outcome ++ t) (rest_first outcome spans sets)
+  rest_next (Some (Variable v)) on =
       let f = variable_lines (result_of outcome spans sets) in
       upward-first f v variable_count on.0
       ∙ ap (λ t. t ++ variables_from (result_of outcome spans sets) (v + 1)) (some_lines outcome spans sets v on.1)
       ∙ append_assoc (variable_line spans v) (positions_from spans sets v 0) (variables_from (result_of outcome spans sets) (v + 1))
-  rest_next (Position v k) on =
+  rest_next (Some (Position v k)) on =
       let f : ℕ → List ℕ = λ i. symbols_line sets (first_position_lem spans v + i) in
       ap (λ t. t ++ variables_from (result_of outcome spans sets) (v + 1)) (upward-first f k (position_count_lem spans v) on.1)
       ∙ append_assoc (f k) (positions_from spans sets v (k + 1)) (variables_from (result_of outcome spans sets) (v + 1))
       ∙ ap (λ t. f k ++ t) (rest_position outcome spans sets v k on.0)
-  rest_next End on = refl
+  rest_next None on = refl
 
 -- a refusal's line has its number and its place
 refused_text_lem : (r : Matched) (g : Refusal) → refused_text (number_of g) (place_of g) ≡ text_of r (refused_as g)
 refused_text_lem r (refusal n place) = refl
 
 -- LAW: at the first line it is the whole text
-pub rest_start : (outcome : Outcome) (spans sets : List ℕ) → rest_at outcome spans sets First ≡ text_in (result_of outcome spans sets)
+pub rest_start : (outcome : Result Degrees Why) (spans sets : List ℕ) → rest_at outcome spans sets (Some First) ≡ text_in (result_of outcome spans sets)
 unfolding rest_at outcome_line
-rest_start (Match low high) spans sets = let r = result_of (Match low high) spans sets in ap (λ t. outcome_line (Match low high) ++ t) (sym (through-upward (variable_lines r) variable_count))
-rest_start (Refused why) spans sets = append-nil (outcome_line (Refused why)) ∙ refused_text_lem (result_of (Refused why) spans sets) (told why)
+rest_start (Ok d) spans sets = let r = result_of (Ok d) spans sets in ap (λ t. outcome_line (Ok d) ++ t) (sym (through-upward (variable_lines r) variable_count))
+rest_start (Err why) spans sets = append-nil (outcome_line (Err why)) ∙ refused_text_lem (result_of (Err why) spans sets) (told why)
 
 -- LAW: at the end it is nothing
-pub rest_end : (outcome : Outcome) (spans sets : List ℕ) → rest_at outcome spans sets End ≡ []
+pub rest_end : (outcome : Result Degrees Why) (spans sets : List ℕ) → rest_at outcome spans sets None ≡ []
 unfolding rest_at
 rest_end outcome spans sets = refl
 
@@ -169,30 +170,30 @@ unfolding seek_in
 seek_on spans v zero e = tt
 seek_on spans v (suc n) e = go (dec_lt 0 (position_count_lem spans v)) (seek_on spans (suc v) n (omega arith))
   where
-    go : Dec (0 < position_count_lem spans v) → OnLine spans (seek_in spans (suc v) n) → OnLine spans (cond (eqb (position_count_lem spans v) 0) (seek_in spans (suc v) n) (Variable v))
+    go : Dec (0 < position_count_lem spans v) → OnLine spans (seek_in spans (suc v) n) → OnLine spans (cond (eqb (position_count_lem spans v) 0) (seek_in spans (suc v) n) (Some (Variable v)))
     go (yes l) later = rw (ne_eqb (position_count_lem spans v) 0 (λ z. omega arith)) (omega arith, l)
     go (no l) later = rw (eq-eqb (position_count_lem spans v) 0 (omega arith)) later
 
-on_first : (outcome : Outcome) (spans : List ℕ) → OnLine spans (after_outcome_lem outcome spans)
+on_first : (outcome : Result Degrees Why) (spans : List ℕ) → OnLine spans (after_outcome_lem outcome spans)
 unfolding after_outcome_lem
-on_first (Match low high) spans = seek_on spans 0 variable_count (omega arith)
-on_first (Refused why) spans = tt
+on_first (Ok d) spans = seek_on spans 0 variable_count (omega arith)
+on_first (Err why) spans = tt
 
 on_position : (spans : List ℕ) (v k : ℕ) → v < variable_count → OnLine spans (after_position_lem spans v k)
 unfolding after_position_lem
 on_position spans v k l = go (dec_lt (k + 1) (position_count_lem spans v))
   where
-    go : Dec (k + 1 < position_count_lem spans v) → OnLine spans (cond (ltb (k + 1) (position_count_lem spans v)) (Position v (k + 1)) (seek_from spans (v + 1)))
+    go : Dec (k + 1 < position_count_lem spans v) → OnLine spans (cond (ltb (k + 1) (position_count_lem spans v)) (Some (Position v (k + 1))) (seek_from spans (v + 1)))
     go (yes m) = rw (lt-ltb (k + 1) (position_count_lem spans v) m) (l, m)
     go (no m) = rw (le-ltb (k + 1) (position_count_lem spans v) (omega arith)) (seek_on spans (v + 1) (variable_count - (v + 1)) (omega arith))
 
 -- LAW: the next cursor stands at a line, or at the end
-pub on_next : (outcome : Outcome) (spans : List ℕ) (cursor : Cursor) → OnLine spans cursor → OnLine spans (next_cursor outcome spans cursor)
+pub on_next : (outcome : Result Degrees Why) (spans : List ℕ) (cursor : Option Cursor) → OnLine spans cursor → OnLine spans (next_cursor outcome spans cursor)
 unfolding next_cursor
-on_next outcome spans First on = on_first outcome spans
-on_next outcome spans (Variable v) on = on
-on_next outcome spans (Position v k) on = on_position spans v k on.0
-on_next outcome spans End on = tt
+on_next outcome spans (Some First) on = on_first outcome spans
+on_next outcome spans (Some (Variable v)) on = on
+on_next outcome spans (Some (Position v k)) on = on_position spans v k on.0
+on_next outcome spans None on = tt
 
 -- ---- how many lines there are
 
@@ -200,28 +201,28 @@ pub nothing : (xs : List ℕ) → length xs ≤ 0 → xs ≡ []
 nothing [] l = refl
 nothing (x ∷ xs) l = absurd (omega arith)
 
-ended : (cursor : Cursor) → Dec (cursor ≡ End)
-ended First = no (λ e. let z : ◌≡◌ {A = ℕ} 0 1 = cc in omega arith)
-ended (Variable v) = no (λ e. let z : ◌≡◌ {A = ℕ} 0 1 = cc in omega arith)
-ended (Position v k) = no (λ e. let z : ◌≡◌ {A = ℕ} 0 1 = cc in omega arith)
-ended End = yes refl
+ended : (cursor : Option Cursor) → Dec (cursor ≡ None)
+ended (Some First) = no (λ e. let z : ◌≡◌ {A = ℕ} 0 1 = cc in omega arith)
+ended (Some (Variable v)) = no (λ e. let z : ◌≡◌ {A = ℕ} 0 1 = cc in omega arith)
+ended (Some (Position v k)) = no (λ e. let z : ◌≡◌ {A = ℕ} 0 1 = cc in omega arith)
+ended None = yes refl
 
-outcome_some : (outcome : Outcome) → 0 < length (outcome_line outcome)
+outcome_some : (outcome : Result Degrees Why) → 0 < length (outcome_line outcome)
 unfolding outcome_line
-outcome_some (Match low high) = line-some (match_word ∷ decimal low ∷ decimal high ∷ [])
-outcome_some (Refused why) = line-some (refused_word ∷ decimal (number_of (told why)) ∷ decimal (place_of (told why)) ∷ [])
+outcome_some (Ok d) = line-some (match_word ∷ decimal d.lowest ∷ decimal d.highest ∷ [])
+outcome_some (Err why) = line-some (refused_word ∷ decimal (number_of (told why)) ∷ decimal (place_of (told why)) ∷ [])
 
-module _ (outcome : Outcome) (spans sets : List ℕ) where
+module _ (outcome : Result Degrees Why) (spans sets : List ℕ) where
   -- no line is empty
-  some_byte : (cursor : Cursor) → (cursor ≡ End → ⊥) → 0 < length (line_at outcome spans sets cursor)
+  some_byte : (cursor : Option Cursor) → (cursor ≡ None → ⊥) → 0 < length (line_at outcome spans sets cursor)
   unfolding line_at variable_line symbols_line
-  some_byte First over = outcome_some outcome
-  some_byte (Variable v) over = line-some (variable_word v ∷ decimal (position_count_lem spans v) ∷ decimal (own_lowest_lem spans v) ∷ decimal (own_highest_lem spans v) ∷ [])
-  some_byte (Position v k) over = line-some (map decimal (collect set_room (holds sets (first_position_lem spans v + k))))
-  some_byte End over = absurd (over refl)
+  some_byte (Some First) over = outcome_some outcome
+  some_byte (Some (Variable v)) over = line-some (variable_word v ∷ decimal (position_count_lem spans v) ∷ decimal (own_lowest_lem spans v) ∷ decimal (own_highest_lem spans v) ∷ [])
+  some_byte (Some (Position v k)) over = line-some (map decimal (collect set_room (holds sets (first_position_lem spans v + k))))
+  some_byte None over = absurd (over refl)
 
   -- LAW: with each line less is left
-  pub rest_falls : (cursor : Cursor) → OnLine spans cursor → (cursor ≡ End → ⊥)
+  pub rest_falls : (cursor : Option Cursor) → OnLine spans cursor → (cursor ≡ None → ⊥)
       → length (rest_at outcome spans sets (next_cursor outcome spans cursor)) < length (rest_at outcome spans sets cursor)
   rest_falls cursor on over =
       let here = line_at outcome spans sets cursor in
@@ -229,22 +230,22 @@ module _ (outcome : Outcome) (spans sets : List ℕ) where
       omega (arith, ap length (rest_next outcome spans sets cursor on), length-append here left, some_byte cursor over)
 
   -- LAW: nothing is left exactly at the end
-  pub rest_over : (cursor : Cursor) → OnLine spans cursor → rest_at outcome spans sets cursor ≡ [] ↔ (cursor ≡ End)
+  pub rest_over : (cursor : Option Cursor) → OnLine spans cursor → rest_at outcome spans sets cursor ≡ [] ↔ (cursor ≡ None)
   rest_over cursor on = ((λ e. go (ended cursor) e), (λ e. ap (rest_at outcome spans sets) e ∙ rest_end outcome spans sets))
     where
-      go : Dec (cursor ≡ End) → rest_at outcome spans sets cursor ≡ [] → cursor ≡ End
+      go : Dec (cursor ≡ None) → rest_at outcome spans sets cursor ≡ [] → cursor ≡ None
       go (yes over) e = over
       go (no on_way) e = absurd (omega (arith, rest_falls cursor on on_way, ap length e))
 
-  left : (cursor : Cursor) → OnLine spans cursor → (n : ℕ) → length (rest_at outcome spans sets cursor) ≤ suc n → length (rest_at outcome spans sets (next_cursor outcome spans cursor)) ≤ n
+  left : (cursor : Option Cursor) → OnLine spans cursor → (n : ℕ) → length (rest_at outcome spans sets cursor) ≤ suc n → length (rest_at outcome spans sets (next_cursor outcome spans cursor)) ≤ n
   unfolding next_cursor rest_at
   left cursor on n l = go (ended cursor)
     where
-      go : Dec (cursor ≡ End) → length (rest_at outcome spans sets (next_cursor outcome spans cursor)) ≤ n
+      go : Dec (cursor ≡ None) → length (rest_at outcome spans sets (next_cursor outcome spans cursor)) ≤ n
       go (yes over) = rw over (omega arith)
       go (no on_way) = omega (arith, rest_falls cursor on on_way)
 
-  all_lines : (n : ℕ) (cursor : Cursor) → OnLine spans cursor → length (rest_at outcome spans sets cursor) ≤ n → lines_from outcome spans sets n cursor ≡ rest_at outcome spans sets cursor
+  all_lines : (n : ℕ) (cursor : Option Cursor) → OnLine spans cursor → length (rest_at outcome spans sets cursor) ≤ n → lines_from outcome spans sets n cursor ≡ rest_at outcome spans sets cursor
   all_lines zero cursor on l = sym (nothing (rest_at outcome spans sets cursor) l)
   all_lines (suc n) cursor on l =
       ap (λ t. line_at outcome spans sets cursor ++ t) (all_lines n (next_cursor outcome spans cursor) (on_next outcome spans cursor on) (left cursor on n l))
@@ -252,5 +253,5 @@ module _ (outcome : Outcome) (spans sets : List ℕ) where
 
   -- THEOREM: the lines from the first on, one after the other, are the text. (Past the last line there are only empty ones.)
   pub lines_are_text : (n : ℕ) → length (text_in (result_of outcome spans sets)) ≤ n
-      → lines_from outcome spans sets n First ≡ text_in (result_of outcome spans sets)
-  lines_are_text n l = all_lines n First tt (omega (arith, ap length (rest_start outcome spans sets))) ∙ rest_start outcome spans sets
+      → lines_from outcome spans sets n (Some First) ≡ text_in (result_of outcome spans sets)
+  lines_are_text n l = all_lines n (Some First) tt (omega (arith, ap length (rest_start outcome spans sets))) ∙ rest_start outcome spans sets

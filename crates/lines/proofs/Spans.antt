@@ -8,7 +8,7 @@ use Rattle.meaning.specs.Limits.{variable_count, span_width}
 use Rattle.meaning.specs.Calls.{zeros}
 use Rattle.meaning.specs.Buffers.{first_position_lem, position_count_lem}
 use Rattle.meaning.proofs.Bits.{get_or_zeros}
-use Rattle.lines.specs.Lines.{Spanned}
+use Rattle.lines.specs.Spans.{Spanned}
 
 -- where a variable's positions end
 abbrev pub ending : List ℕ → ℕ → ℕ

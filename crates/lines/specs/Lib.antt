@@ -2,3 +2,4 @@
 pub mod Lines
 pub mod Lengths
 pub mod Filling
+pub mod Spans

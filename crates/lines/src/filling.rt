@@ -1,43 +1,23 @@
 // The answer's text in pieces, as large as a buffer has room for.
-ghost use Rattle.std.specs.Prelude.{◌≤◌, length};
-ghost use Rattle.lines.specs.Lines.{OnLine, Spanned};
+ghost use Rattle.std.specs.Prelude.{Some};
+ghost use Rattle.lines.specs.Lines.{OnLine};
 ghost use Rattle.lines.specs.Filling.{FilledBy};
 
-use crate::line::{Cursor, LINE_ROOM, Line, next_line};
-use refusal::Outcome;
+use crate::answer::Answer;
+use crate::line::{Cursor, LINE_ROOM, next_line};
+use text::Text;
 
-#[derive(Clone, Copy)]
-pub struct Filled {
-    // where the text ends
-    pub end: usize,
-    // the line that comes next
-    pub cursor: Cursor,
-}
-
-// Puts the lines from the cursor on behind each other, from `at` on, for as long as there is room for any line.
-pub fn fill(
-    outcome: Outcome,
-    spans: &[u16],
-    sets: &[u64],
-    cursor: Cursor,
-    out: &mut [u8],
-    at: usize,
-) -> Filled
-    requires { Spanned spans.now sets.now × OnLine spans.now cursor × (at ≤ length out.old) }
-    ensures { FilledBy outcome spans.now sets.now cursor out.old at result out.new }
+// Puts the lines from the cursor on behind each other for as long as there is room for any line, and says which comes next.
+pub fn fill(answer: Answer, first: Cursor, text: &mut Text) -> Option<Cursor>
+    requires { OnLine answer.spans.now (Some first) }
+    ensures { FilledBy answer.entry.outcome answer.entry.spans.now answer.entry.sets.now (Some first) text.old result text.new }
 {
-    let mut end = at;
-    let mut next = cursor;
-    while out.len() - end >= LINE_ROOM {
-        match next_line(outcome, spans, sets, next, out, end) {
-            Line::Text(line_end, after) => {
-                end = line_end;
-                next = after;
-            }
-            Line::Done => {
-                return Filled { end, cursor: next };
-            }
+    let mut next = Some(first);
+    while let Some(cursor) = next {
+        if text.room() < LINE_ROOM {
+            break;
         }
+        next = next_line(answer, cursor, text);
     }
-    Filled { end, cursor: next }
+    next
 }

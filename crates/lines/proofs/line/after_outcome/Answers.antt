@@ -2,10 +2,10 @@
 use Rattle.lines.specs.Lines.{after_outcome_lem}
 use Rattle.lines.proofs.line.after_outcome.Goals as goal
 
-pub returns-in-Match : goal.returns-in-Match
+pub returns-in-Ok : goal.returns-in-Ok
 unfolding after_outcome_lem
-returns-in-Match c = rw c.in-Match.is c.seek.ensures
+returns-in-Ok c = rw c.in-Ok.is c.seek.ensures
 
-pub returns-in-Refused : goal.returns-in-Refused
+pub returns-in-Err : goal.returns-in-Err
 unfolding after_outcome_lem
-returns-in-Refused c = rw c.in-Refused.is
+returns-in-Err c = rw c.in-Err.is

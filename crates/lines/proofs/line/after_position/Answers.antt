@@ -6,14 +6,10 @@ use Rattle.meaning.specs.Buffers.{position_count_lem}
 use Rattle.lines.specs.Lines.{after_position_lem}
 use Rattle.lines.proofs.line.after_position.Goals as goal
 
-pub returns-then-k-position_count : goal.returns-then-k-position_count
+pub returns-then-k-positions : goal.returns-then-k-positions
 unfolding after_position_lem
-returns-then-k-position_count c =
-    let a = c.args in
-    rw (lt-ltb (a.k + 1) (position_count_lem a.spans.now a.v) (omega arith))
+returns-then-k-positions c = rw (lt-ltb (c.args.k + 1) (position_count_lem c.args.answer.spans.now c.args.v) (omega arith))
 
-pub returns-else-k-position_count : goal.returns-else-k-position_count
+pub returns-else-k-positions : goal.returns-else-k-positions
 unfolding after_position_lem
-returns-else-k-position_count c =
-    let a = c.args in
-    rw (le-ltb (a.k + 1) (position_count_lem a.spans.now a.v) (omega arith)) c.seek.ensures
+returns-else-k-positions c = rw (le-ltb (c.args.k + 1) (position_count_lem c.args.answer.spans.now c.args.v) (omega arith)) c.seek.ensures

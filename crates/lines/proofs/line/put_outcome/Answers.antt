@@ -4,13 +4,10 @@ use Rattle.text.specs.Texts.{numeral}
 use Rattle.lines.specs.Lines.{outcome_line}
 use Rattle.lines.proofs.line.put_outcome.Goals as goal
 
-pub returns-in-Match : goal.returns-in-Match
+pub returns-in-Ok : goal.returns-in-Ok
 unfolding outcome_line numeral
-returns-in-Match c = rw c.in-Match.is c.put_fields.ensures
+returns-in-Ok c = rw c.in-Ok.is c.put_fields.ensures
 
-pub returns-in-Refused : goal.returns-in-Refused
+pub returns-in-Err : goal.returns-in-Err
 unfolding outcome_line numeral
-returns-in-Refused c =
-    let n = c.number.ensures in
-    let p = c.place.ensures in
-    rw (c.in-Refused.is, sym n, sym p) c.put_fields-in-Refused.ensures
+returns-in-Err c = rw (c.in-Err.is, sym c.number.ensures, sym c.place.ensures) c.put_fields-in-Err.ensures

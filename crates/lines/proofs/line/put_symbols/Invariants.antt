@@ -1,18 +1,14 @@
--- What each turn of the loop keeps.
+-- The words are those at the position, and the symbols below the next one to be looked at stand in the line.
 use mathlib.Core.Path.{◌≡◌}
-use mathlib.Core.Bool.{true}
-use Prim.Native.Nat.{◌+◌, ◌*◌, ◌-◌, ◌≤◌, ◌<◌}
-use lib.ListN.{length}
-use Rattle.meaning.specs.Limits.{set_room}
-use Rattle.meaning.specs.Buffers.{member}
+use Prim.Native.Nat.{ℕ, ◌+◌, ◌*◌, ◌≤◌, ◌<◌}
+use lib.ListN.{get_or}
+use Rattle.meaning.specs.Limits.{set_words_lem, set_room}
 use Rattle.text.specs.Texts.{PutBy}
 use Rattle.lines.proofs.Joined.{symbols_below}
 use Rattle.lines.proofs.line.put_symbols.Given as goal
 
 abbrev pub invariant-loop-k : goal.invariant-loop-k
 invariant-loop-k l =
-    (l.k ≤ set_room) × (l.k < set_room → member l.set.words l.k ≡ true) × (l.at ≤ l.start + 6 * l.k) × (length l.out ≡ length l.initial.out)
-    × PutBy l.initial.out l.start (symbols_below l.sets l.position l.k) l.at l.out
-
-abbrev pub decreases-loop-k : goal.decreases-loop-k
-decreases-loop-k l = set_room - l.k
+    ((w : ℕ) → w < set_words_lem → get_or l.k-iterator.words.now w 0 ≡ get_or l.sets (set_words_lem * l.position + w) 0)
+    × (l.k-iterator.end ≡ set_room) × (l.start ≡ l.initial.text.used) × (l.text.used ≤ l.start + 6 * l.k-iterator.from)
+    × PutBy l.initial.text (symbols_below l.sets l.position l.k-iterator.from) l.text

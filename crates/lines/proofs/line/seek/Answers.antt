@@ -7,17 +7,17 @@ use Rattle.lines.proofs.line.seek.Goals as goal
 pub loop-v-init : goal.loop-v-init
 loop-v-init c = (omega arith, refl)
 
-pub returns-then-position_count-gt0 : goal.returns-then-position_count-gt0
-returns-then-position_count-gt0 c =
+pub returns-then-span_at-gt0 : goal.returns-then-span_at-gt0
+returns-then-span_at-gt0 c =
     let loop = c.loop-v in
-    sym (seek_here c.args.spans.now loop.v (omega arith) (omega arith)) ∙ loop.invariant.1
+    sym (seek_here c.args.answer.spans.now loop.v (omega arith) (omega arith)) ∙ loop.invariant.1
 
 pub loop-v-preserved : goal.loop-v-preserved
 loop-v-preserved c =
     let loop = c.loop-v in
-    (omega arith, sym (seek_past c.args.spans.now loop.v (omega arith) (omega arith)) ∙ loop.invariant.1)
+    (omega arith, sym (seek_past c.args.answer.spans.now loop.v (omega arith) (omega arith)) ∙ loop.invariant.1)
 
 pub returns : goal.returns
 returns c =
     let loop = c.loop-v in
-    sym (seek_end c.args.spans.now loop.v (omega arith)) ∙ loop.invariant.1
+    sym (seek_end c.args.answer.spans.now loop.v (omega arith)) ∙ loop.invariant.1

@@ -6,4 +6,4 @@ use Rattle.lines.specs.Lines.{seek_from}
 use Rattle.lines.proofs.line.seek.Given as goal
 
 abbrev pub invariant-loop-v : goal.invariant-loop-v
-invariant-loop-v l = (l.v ≤ variable_count) × (seek_from l.spans l.v ≡ seek_from l.spans l.first)
+invariant-loop-v l = (l.v ≤ variable_count) × (seek_from l.answer.spans.now l.v ≡ seek_from l.answer.spans.now l.first)
