@@ -30,7 +30,8 @@ module _ (file : List ℕ) (bytes : (i : ℕ) → get_or file i 0 < 256) where
   pub number_small : (i : ℕ) → number file i < 65536
   number_small i = omega (arith, bytes i, bytes (i + 1))
 
-  short_from : (n i j : ℕ) → Short (get_or (pairs_from file i n) j (pair 0 0 0))
+  -- LAW: so have the pairs from any byte on
+  pub short_from : (n i j : ℕ) → Short (get_or (pairs_from file i n) j (pair 0 0 0))
   short_from zero i j = omega arith
   short_from (suc n) i zero = number_small (i + 2)
   short_from (suc n) i (suc j) = short_from n (i + 6) j

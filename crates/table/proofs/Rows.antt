@@ -16,9 +16,10 @@ use Rattle.meaning.specs.File.{symbol_count_lem, pair_count_lem, arities_offset,
 use Rattle.meaning.specs.Refusals.{row, row_place, row1_offsets, row3, row4}
 use Rattle.meaning.proofs.Sound.{at0-none}
 
-least_below_lem : (b : ℕ → Bool) (n k : ℕ) → least_below n b ≡ just k → k < n
-least_below_lem b zero k e = absurd (some-ne-none k (sym e))
-least_below_lem b (suc n) k e = go (least_below n b) (b n) e (least_below_lem b n k)
+-- LAW: the least number below n is below n
+pub least_inside : (b : ℕ → Bool) (n k : ℕ) → least_below n b ≡ just k → k < n
+least_inside b zero k e = absurd (some-ne-none k (sym e))
+least_inside b (suc n) k e = go (least_below n b) (b n) e (least_inside b n k)
   where
     go : (o : Option ℕ) (t : Bool) → or_else o (cond t (just n) none) ≡ just k → (o ≡ just k → k < n) → k < suc n
     go (just i) t e rest = omega (arith, rest e)
@@ -28,12 +29,12 @@ least_below_lem b (suc n) k e = go (least_below n b) (b n) e (least_below_lem b 
 -- LAW: a symbol whose arity is too high is one of the list's
 pub row3_inside : (arities : List ℕ) (k : ℕ) → row3 arities ≡ row 3 (just k) → k < length arities
 unfolding row3
-row3_inside arities k e = least_below_lem _ (length arities) k (ap row_place e)
+row3_inside arities k e = least_inside _ (length arities) k (ap row_place e)
 
 -- LAW: a pair that is bad is one of the list's
 pub row4_inside : (arities : List ℕ) (pairs : List Pair) (k : ℕ) → row4 arities pairs ≡ row 4 (just k) → k < length pairs
 unfolding row4
-row4_inside arities pairs k e = least_below_lem _ (length pairs) k (ap row_place e)
+row4_inside arities pairs k e = least_inside _ (length pairs) k (ap row_place e)
 
 -- LAW: a file whose offsets and total are in order is as long as its counts ask for
 pub placed_length : (file : List ℕ) → row1_offsets file ≡ row 1 none → length file ≡ total (symbol_count_lem file) (pair_count_lem file)
