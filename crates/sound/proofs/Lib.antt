@@ -1,3 +1,2 @@
--- Laws that the calls cite, and those on runs of pairs.
+-- Laws that the calls cite.
 pub mod Checks
-pub mod InFile
