@@ -1,9 +1,9 @@
 -- Numbers handed in three to a pair: how many pairs they give, which they are, and that their bytes are the numbers' own bytes. A last pair
 -- that is not whole has the degree 0, so a list that holds only pairs that may be listed has no such pair.
-use mathlib.Core.Path.{◌≡◌, refl, ap, ◌∙◌}
+use mathlib.Core.Path.{◌≡◌, refl, ap}
 use mathlib.Core.List.{List, [], ◌∷◌, ◌++◌}
 use mathlib.Core.Bool.{true, ◌||◌, not}
-use Prim.Native.Nat.{ℕ, zero, suc, ◌+◌, ◌*◌, ◌/◌, ◌%◌, ◌≤◌, ◌<◌}
+use Prim.Native.Nat.{ℕ, ◌+◌, ◌*◌, ◌/◌, ◌%◌, ◌≤◌}
 use native.Mathlib.Omega.{arith}
 use lib.Dec.{ltb, eqb}
 use lib.ListN.{length, get_or, get_or-eq_default}
@@ -12,12 +12,8 @@ use Rattle.theory.specs.Pairs.{Pair, pair, SoundPair}
 use Rattle.theory.proofs.Lemmas.{or_right}
 use Rattle.meaning.specs.File.{pair_bytes, pairs_bytes, pairs_of, numbers_of_lem}
 use Rattle.meaning.specs.Refusals.{unsound}
-use Rattle.table.proofs.Rising.{Short}
+use Rattle.pairs.specs.InList.{pair_at_lem}
 use Rattle.layout.specs.Bytes.{numbers_bytes}
-
--- the pair whose first number is number i
-abbrev pub three_at : List ℕ → ℕ → Pair
-three_at ns i = pair (get_or ns i 0) (get_or ns (i + 1) 0) (get_or ns (i + 2) 0)
 
 pub length-pairs_of : (ns : List ℕ) → length (pairs_of ns) ≡ (length ns + 2) / 3
 unfolding pairs_of
@@ -25,34 +21,6 @@ length-pairs_of [] = refl
 length-pairs_of (l ∷ []) = refl
 length-pairs_of (l ∷ h ∷ []) = refl
 length-pairs_of (l ∷ h ∷ d ∷ ns) = omega (arith, length-pairs_of ns)
-
-three_past : (ns : List ℕ) (i : ℕ) → length ns ≤ i → pair 0 0 0 ≡ three_at ns i
-three_past ns i e =
-    let a : get_or ns i 0 ≡ 0 = get_or-eq_default ns 0 e in
-    let b : get_or ns (i + 1) 0 ≡ 0 = get_or-eq_default ns 0 (omega arith) in
-    let c : get_or ns (i + 2) 0 ≡ 0 = get_or-eq_default ns 0 (omega arith) in
-    rw (a, b, c)
-
-three_on : (l h d : ℕ) (ns : List ℕ) (k : ℕ) → three_at ns (3 * k) ≡ three_at (l ∷ h ∷ d ∷ ns) (3 * suc k)
-three_on l h d ns k =
-    let a : 3 * suc k ≡ suc (suc (suc (3 * k))) = omega arith in
-    let b : 3 * suc k + 1 ≡ suc (suc (suc (3 * k + 1))) = omega arith in
-    let c : 3 * suc k + 2 ≡ suc (suc (suc (3 * k + 2))) = omega arith in
-    rw (c, b, a)
-
-pub pair_at_lem : (ns : List ℕ) (k : ℕ) → get_or (pairs_of ns) k (pair 0 0 0) ≡ three_at ns (3 * k)
-unfolding pairs_of
-pair_at_lem [] k = refl
-pair_at_lem (l ∷ []) zero = refl
-pair_at_lem (l ∷ h ∷ []) zero = refl
-pair_at_lem (l ∷ h ∷ d ∷ ns) zero = refl
-pair_at_lem (l ∷ []) (suc k) = three_past (l ∷ []) (3 * suc k) (omega arith)
-pair_at_lem (l ∷ h ∷ []) (suc k) = three_past (l ∷ h ∷ []) (3 * suc k) (omega arith)
-pair_at_lem (l ∷ h ∷ d ∷ ns) (suc k) = pair_at_lem ns k ∙ three_on l h d ns k
-
--- the pairs of short numbers are short
-pub short_pairs : (ns : List ℕ) → ((j : ℕ) → get_or ns j 0 < 65536) → (j : ℕ) → Short (get_or (pairs_of ns) j (pair 0 0 0))
-short_pairs ns short j = rw (pair_at_lem ns j) (short (3 * j + 1))
 
 pub pairs_of_numbers : (ps : List Pair) → pairs_of (numbers_of_lem ps) ≡ ps
 unfolding pairs_of numbers_of_lem

@@ -1,14 +1,10 @@
 -- The writer's refusals by how many pairs may be listed, and what it leaves once all but the pairs is written.
-use Rattle.std.specs.Prelude.{List, [], ◌∷◌, ◌++◌, cond, ℕ, ◌+◌, ltb, length, get_or}
+use Rattle.std.specs.Prelude.{List, [], ◌∷◌, ◌++◌, cond, ℕ, ltb, length}
 use Rattle.std.proofs.Math.Option.{Option, none, some as just}
 use Rattle.meaning.specs.File.{total, header}
 use Rattle.meaning.specs.Refusals.{Refusal, Row, row, first, at0, row2, row3}
 use Rattle.meaning.specs.Calls.{Answer, unless}
 use Rattle.meaning.specs.Over.{over}
-
--- The numbers from number `at` on.
-abbrev pub numbers_from : List ℕ → ℕ → ℕ → ℕ
-numbers_from numbers at n = get_or numbers (at + n) 0
 
 -- Where p pairs stop being sound, if so many of them are, from the first on: at the next one, if there is one.
 abbrev pub stop : ℕ → ℕ → Option ℕ

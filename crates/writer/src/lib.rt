@@ -1,19 +1,19 @@
 // The table writer on numbers: it writes the whole file or changes nothing.
 #![tactic(auto)]
 
-mod pairs;
-
 ghost use Rattle.std.specs.Prelude.{◌≡◌, List, ◌*◌, ◌≤◌, length};
 ghost use Rattle.theory.specs.Pairs.{Pair};
 ghost use Rattle.meaning.specs.Limits.{most_pairs};
 ghost use Rattle.meaning.specs.File.{pairs_of};
 ghost use Rattle.meaning.specs.Calls.{written, later_output};
-ghost use Rattle.writer.specs.Counted.{counted_answer, begun_output};
+ghost use Rattle.meaning.specs.Refusals.{row, row4};
+ghost use Rattle.writer.specs.Counted.{stop, counted_answer, begun_output};
 ghost use Rattle.writer.specs.Laid.{Laid};
 ghost use Rattle.writer.specs.Said.{said};
 
-use crate::pairs::sound_pairs;
 use layout::{put_arities, put_header, put_numbers};
+use pairs::bad_pair;
+use pairs::in_list::InList;
 use refusal::Refusal;
 use table::rules::{MOST_PAIRS, allowed, high_arity};
 
@@ -47,6 +47,15 @@ fn begin(arities: &[u8], pairs: usize, sound: usize, output: &mut [u8]) -> Resul
     put_header(output, arities.len(), pairs);
     put_arities(output, arities);
     Ok(total)
+}
+
+// How many pairs, from the first on, may be listed as they stand. A last pair that is not whole has no degree and so may not: it need not be
+// looked at.
+fn sound_pairs(arities: &[u8], numbers: &[u16]) -> usize
+    ensures { row4 arities.now (pairs_of numbers.now) ≡ row 4 (stop result (length (pairs_of numbers.now))) }
+{
+    let listed = InList { numbers };
+    bad_pair(arities, &listed).unwrap_or(numbers.len() / 3)
 }
 
 // The table file of these arities and pairs, three numbers to a pair, written to the front of the output, and its length; or a refusal, and the
