@@ -1,12 +1,18 @@
 -- What the readings of lists say to a call. On a sound table its rows for the table are silent, so the first of its other rows that holds
 -- refuses it; and a row for a list holds where the list's reading has a fault.
-use mathlib.Core.Path.{◌≡◌, refl, sym}
+use mathlib.Core.Path.{◌≡◌, refl, sym, ap, subst, ◌∙◌}
 use mathlib.Core.List.{List, [], ◌∷◌, ◌++◌}
 use mathlib.Core.Bool.{Bool, true, false, ◌&&◌, false≢true}
-use mathlib.Core.Option.{Option, none, some as just}
+use mathlib.Core.Option.{Option as Maybe, none, some as just}
 use Prim.Native.Nat.{ℕ, ◌≤◌, ◌<◌}
 use lib.ListN.{length}
 use borrow.Author.Tests.{lt-ltb, le-ltb}
+use native.Mathlib.Omega.{arith}
+use Rattle.std.specs.Prelude.{Option, Some, None, Result, Ok, Err, is_some, is_ok, IfOk, MatchResult, IsErrAnd}
+use Rattle.std.specs.Result.{result_ok}
+use Rattle.refusal.specs.declared.Refusal.{Refusal}
+use Rattle.refusal.specs.Told.{told}
+use Rattle.sound.specs.Found.{found}
 use Rattle.theory.specs.Table.{Table}
 use Rattle.theory.specs.Read.{Walk, walk, Reading, whole, faulty, reading}
 use Rattle.meaning.specs.File.{table_in}
@@ -15,19 +21,25 @@ use Rattle.meaning.specs.Calls.{refused, gives, degree_rows, heading_degree, par
 use Rattle.meaning.proofs.First.{first-append, append-none, all_silent}
 use Rattle.meaning.proofs.Trees.{whole6, whole7}
 use Rattle.meaning.proofs.Compose.{first_stays}
+use Rattle.terms.specs.Readings.{reading_in}
 use Rattle.terms.specs.Degrees.{Heading, degree_of}
 use Rattle.terms.proofs.Readings.{row6_is, row7_is}
 use Rattle.headings.specs.Terms.{is_whole, accepted}
 
 -- ---- accepted or not
 
-accepted-none : (o : Option Given) → accepted o ≡ true → o ≡ none
+accepted-none : (o : Maybe Given) → accepted o ≡ true → o ≡ none
 accepted-none none e = refl
 accepted-none (just g) e = absurd (false≢true e)
 
-refused_some : (o : Option Given) → accepted o ≡ false → (g : Given) × (o ≡ just g)
+refused_some : (o : Maybe Given) → accepted o ≡ false → (g : Given) × (o ≡ just g)
 refused_some none e = absurd (false≢true (sym e))
 refused_some (just g) e = (g, refl)
+
+-- where nothing is kept of what the check found, the table is refused
+refusal_of : {A : Type 0} (table : List ℕ) (r : Result A Refusal) → result_ok r ≡ None → found r ≡ first (table_rows table) → (g : Given) × (first (table_rows table) ≡ just g)
+refusal_of {A = A} table (Ok a) e f = absurd (let z : ◌≡◌ {A = Option A} (Some a) None = e in let w : ◌≡◌ {A = ℕ} 0 1 = cc in omega arith)
+refusal_of table (Err why) e f = (told why, sym f)
 
 -- what the first rows refuse is not accepted
 refused_early : (rows more : List Row) (g : Given) → first rows ≡ just g → false ≡ accepted (first (rows ++ more))
@@ -43,6 +55,30 @@ three_lists n (faulty place) q r = refl
 three_lists n whole (faulty place) r = refl
 three_lists n whole whole (faulty place) = refl
 three_lists n whole whole whole = refl
+
+-- ---- what a check or a reading told
+
+-- LAW: what holds of the table that was found holds of the one that was kept
+pub kept : {A : Type 0} (r : Result A Refusal) (P : A → Type 0) (a : A) → Some a ≡ result_ok r → IfOk r P → P a
+kept (Ok b) P a e p = let same : b ≡ a = cc in subst P same p
+kept {A = A} (Err why) P a e p = absurd (let z : ◌≡◌ {A = Option A} (Some a) None = e in let w : ◌≡◌ {A = ℕ} 0 1 = cc in omega arith)
+
+-- LAW: where only whether a list was read whole is kept, that says it
+pub whole_where : {A : Type 0} (r : Result A ℕ) (o : Option A) {w : Reading} → reading_in r ≡ w → is_some o ≡ is_ok r → is_whole w ≡ is_some o
+whole_where (Ok a) o e v = ap is_whole (sym e) ∙ sym v
+whole_where (Err i) o e v = ap is_whole (sym e) ∙ sym v
+
+-- LAW: a list was read whole where no refusal was made
+pub read_whole : {A : Type 0} (r : Result A ℕ) (m : Result A Refusal) {w : Reading} {a : A} → reading_in r ≡ w → is_ok m ≡ is_ok r → m ≡ Ok a → w ≡ whole
+read_whole (Ok b) m e v is = sym e
+read_whole (Err i) m e v is = absurd (false≢true (sym v ∙ ap is_ok is))
+
+-- LAW: a refusal that a fault was made into names its place
+pub faulty_where : {A : Type 0} (r : Result A ℕ) (m : Result A Refusal) (named : ℕ → Refusal) {w : Reading} {why : Refusal} → reading_in r ≡ w
+    → MatchResult r (λ x. m ≡ Ok x) (λ e. IsErrAnd m (λ f. f ≡ named e)) → m ≡ Err why → (place : ℕ) × ((w ≡ faulty place) × (why ≡ named place))
+faulty_where {A = A} (Ok a) m named {why = why} e cases is =
+    absurd (let z : ◌≡◌ {A = Result A Refusal} (Ok a) (Err why) = sym cases ∙ is in let w : ◌≡◌ {A = ℕ} 0 1 = cc in omega arith)
+faulty_where (Err i) m named e cases is = (i, (sym e, rw is at cases))
 
 -- ---- the degree of two headings
 
@@ -72,9 +108,9 @@ module _ (table one two : List ℕ) (s : SoundFile table) where
 
 module _ (table term : List ℕ) where
   -- LAW: what refuses the table is not accepted
-  pub term_unaccepted : (g : Given) → first (table_rows table) ≡ just g → false ≡ accepted (first (subterm_rows table term))
+  pub term_unaccepted : {A : Type 0} (r : Result A Refusal) → found r ≡ first (table_rows table) → result_ok r ≡ None → false ≡ accepted (first (subterm_rows table term))
   unfolding subterm_rows
-  term_unaccepted = refused_early (table_rows table) (row6 (table_in table) true term ∷ [])
+  term_unaccepted r f e = let g = refusal_of table r e f in refused_early (table_rows table) (row6 (table_in table) true term ∷ []) g.0 g.1
 
   -- LAW: a sound table accepts a list that is a term
   pub term_accepted : SoundFile table → (a : Bool) → is_whole (reading (table_in table) true term) ≡ a → a ≡ accepted (first (subterm_rows table term))
@@ -112,9 +148,9 @@ module _ (table heading one two : List ℕ) where
   headings = row7 T heading ∷ row7 T one ∷ row7 T two ∷ []
 
   -- LAW: what refuses the table is not accepted
-  pub headings_unaccepted : (g : Given) → first (table_rows table) ≡ just g → false ≡ accepted (first (nearer_rows table heading one two))
+  pub headings_unaccepted : {A : Type 0} (r : Result A Refusal) → found r ≡ first (table_rows table) → result_ok r ≡ None → false ≡ accepted (first (nearer_rows table heading one two))
   unfolding nearer_rows
-  headings_unaccepted = refused_early (table_rows table) headings
+  headings_unaccepted r f e = let g = refusal_of table r e f in refused_early (table_rows table) headings g.0 g.1
 
   -- LAW: a sound table accepts three lists that are headings
   pub headings_accepted : SoundFile table → (a b c : Bool) → is_whole (reading T false heading) ≡ a → is_whole (reading T false one) ≡ b → is_whole (reading T false two) ≡ c

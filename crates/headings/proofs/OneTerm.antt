@@ -3,10 +3,11 @@
 use mathlib.Core.Path.{◌≡◌, refl, sym, ap, ap₂, ◌∙◌}
 use mathlib.Core.List.{List}
 use Prim.Native.Nat.{ℕ}
+use Rattle.std.specs.Prelude.{Result, Option, Some, None}
 use Rattle.meaning.specs.Calls.{Part, part, subterm, Nearer as Which, the_first, the_second_lem, neither, nearer}
-use Rattle.tables.specs.declared.DegreeAnswer.{DegreeAnswer}
-use Rattle.headings.specs.declared.Choice.{Choice}
-use Rattle.headings.specs.declared.Choice.TheVariants.{Neither, First, Second}
+use Rattle.refusal.specs.declared.Refusal.{Refusal}
+use Rattle.headings.specs.declared.Candidate.{Candidate}
+use Rattle.headings.specs.declared.Candidate.TheVariants.{First, Second}
 use Rattle.headings.specs.Terms.{Nodes, DegreeOfHeadings, PartOf, IsPart, Subterm, IsChosen, Nearer, said_choice, Choose}
 use Rattle.tables.proofs.OneTable.{one_said_degree}
 
@@ -40,21 +41,21 @@ one_whole one two r s the_second_lem n p q = p ∙ sym q
 one_whole one two r s neither n p q = absurd (n refl)
 
 -- the choice that says this
-abbrev choice_of : Which → Choice
-choice_of neither = Neither
-choice_of the_first = First
-choice_of the_second_lem = Second
+abbrev choice_of : Which → Option Candidate
+choice_of neither = None
+choice_of the_first = Some First
+choice_of the_second_lem = Some Second
 
-choice_said : (r : Choice) → choice_of (said_choice r) ≡ r
-choice_said Neither = refl
-choice_said First = refl
-choice_said Second = refl
+choice_said : (r : Option Candidate) → choice_of (said_choice r) ≡ r
+choice_said None = refl
+choice_said (Some First) = refl
+choice_said (Some Second) = refl
 
 -- THEOREM: any two results that a promise allows are equal
-pub one_choice : (table heading one two : List ℕ) (r s : Choice) → Choose table heading one two r → Choose table heading one two s → r ≡ s
+pub one_choice : (table heading one two : List ℕ) (r s : Option Candidate) → Choose table heading one two r → Choose table heading one two s → r ≡ s
 one_choice table heading one two r s p q = sym (choice_said r) ∙ ap choice_of (p ∙ sym q) ∙ choice_said s
 
-pub one_degree : (table one two : List ℕ) (r s : DegreeAnswer) → DegreeOfHeadings table one two r → DegreeOfHeadings table one two s → r ≡ s
+pub one_degree : (table one two : List ℕ) (r s : Result ℕ Refusal) → DegreeOfHeadings table one two r → DegreeOfHeadings table one two s → r ≡ s
 one_degree table one two r s p q = one_said_degree r s (p ∙ sym q)
 
 pub one_subterm : (table : List ℕ) (term : Nodes) (index : ℕ) (r s : Nodes) → Subterm table term index r → Subterm table term index s → Same r s

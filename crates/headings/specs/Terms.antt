@@ -1,15 +1,15 @@
 -- The calls on terms: what each promises for everything that can be lent to it. A list is handed back as a reference, which has what it holds
 -- (`now`) and where it lies (`ref_ptr`: a block and an offset in bytes). A whole list is handed back as the reference that was lent; a part of one
 -- is a new reference, of which both are said.
-use Rattle.std.specs.Prelude.{◌≡◌, List, Bool, true, false, ℕ, ◌+◌, ◌*◌, take, drop}
-use Rattle.std.proofs.Math.Option.{Option, none, some as just}
+use Rattle.std.specs.Prelude.{◌≡◌, List, Bool, true, false, ℕ, ◌+◌, ◌*◌, take, drop, Result, Option, Some, None}
+use Rattle.std.proofs.Math.Option.{Option as Found, none, some as just}
 use Rattle.std.specs.Borrow.{Bor}
 use Rattle.theory.specs.Read.{Reading, whole, faulty}
-use Rattle.meaning.specs.Refusals.{Refusal}
+use Rattle.meaning.specs.Refusals.{Refusal as Given}
 use Rattle.meaning.specs.Calls.{heading_degree, Part, part, subterm, Nearer as Which, the_first, the_second_lem, neither, nearer}
-use Rattle.tables.specs.declared.DegreeAnswer.{DegreeAnswer}
-use Rattle.headings.specs.declared.Choice.{Choice}
-use Rattle.headings.specs.declared.Choice.TheVariants.{Neither, First, Second}
+use Rattle.refusal.specs.declared.Refusal.{Refusal}
+use Rattle.headings.specs.declared.Candidate.{Candidate}
+use Rattle.headings.specs.declared.Candidate.TheVariants.{First, Second}
 use Rattle.tables.specs.Tables.{said_degree}
 
 -- a reference to a list of nodes
@@ -18,7 +18,7 @@ Nodes = Bor (List ℕ)
 
 -- ---- 3. The degree of two headings.
 
-abbrev pub DegreeOfHeadings : List ℕ → List ℕ → List ℕ → DegreeAnswer → Type 0
+abbrev pub DegreeOfHeadings : List ℕ → List ℕ → List ℕ → Result ℕ Refusal → Type 0
 DegreeOfHeadings table one two r = said_degree r ≡ heading_degree table one two
 
 -- ---- 4. The subterm at an index.
@@ -47,12 +47,12 @@ abbrev pub Nearer : List ℕ → List ℕ → Nodes → Nodes → Nodes → Type
 Nearer table heading one two r = IsChosen one two r (nearer table heading one.now two.now)
 
 -- Which one was chosen, without the list.
-abbrev pub said_choice : Choice → Which
-said_choice Neither = neither
-said_choice First = the_first
-said_choice Second = the_second_lem
+abbrev pub said_choice : Option Candidate → Which
+said_choice None = neither
+said_choice (Some First) = the_first
+said_choice (Some Second) = the_second_lem
 
-abbrev pub Choose : List ℕ → List ℕ → List ℕ → List ℕ → Choice → Type 0
+abbrev pub Choose : List ℕ → List ℕ → List ℕ → List ℕ → Option Candidate → Type 0
 Choose table heading one two r = said_choice r ≡ nearer table heading one two
 
 -- ---- What the tests before an answer come to.
@@ -61,6 +61,6 @@ abbrev pub is_whole : Reading → Bool
 is_whole whole = true
 is_whole (faulty place) = false
 
-abbrev pub accepted : Option Refusal → Bool
+abbrev pub accepted : Found Given → Bool
 accepted none = true
 accepted (just r) = false

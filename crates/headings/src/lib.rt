@@ -2,52 +2,42 @@
 // any bytes and any lists; its answer is fixed by its promise in specs/.
 #![tactic(auto)]
 
-ghost use Rattle.std.specs.Prelude.{◌≡◌};
-ghost use Rattle.theory.specs.Read.{reading};
-ghost use Rattle.meaning.specs.File.{table_in};
-ghost use Rattle.meaning.specs.Refusals.{SoundFile, first as first_of};
+ghost use Rattle.std.specs.Prelude.{◌≡◌, is_some, IfSome};
+ghost use Rattle.meaning.specs.Refusals.{first as first_of};
 ghost use Rattle.meaning.specs.Calls.{subterm_rows, nearer_rows};
-ghost use Rattle.headings.specs.Terms.{DegreeOfHeadings, Subterm, Nearer, Choose, is_whole, accepted};
+ghost use Rattle.headings.specs.Terms.{DegreeOfHeadings, Subterm, Nearer, Choose, accepted};
 
 use refusal::Refusal;
-use sound::{Checked, check};
-use tables::DegreeAnswer;
+use sound::check;
+use table::sound_table::SoundTable;
 use terms::degree::heading_degree;
-use terms::reading::{Reading, read};
+use terms::reading::read;
 use terms::walk::end_from;
 
-// Which of two candidates is nearer.
+// One of two candidates.
 #[derive(Clone, Copy)]
-pub enum Choice {
-    // something is refused
-    Neither,
+pub enum Candidate {
     First,
     Second,
 }
 
 // How near two headings are. A fault in the first is told as a pattern's is.
-pub fn degree_of_headings(table: &[u8], first: &[u16], second: &[u16]) -> DegreeAnswer
+pub fn degree_of_headings(table: &[u8], first: &[u16], second: &[u16]) -> Result<u16, Refusal>
     ensures { DegreeOfHeadings table.now first.now second.now result }
 {
-    match check(table) {
-        Checked::Refused(why) => DegreeAnswer::Refused(why),
-        Checked::Sound => match read(table, false, first) {
-            Reading::Fault(node) => DegreeAnswer::Refused(Refusal::Pattern(node)),
-            Reading::Whole => match read(table, false, second) {
-                Reading::Fault(node) => DegreeAnswer::Refused(Refusal::Heading(node)),
-                Reading::Whole => DegreeAnswer::Degree(heading_degree(table, first, second)),
-            },
-        },
-    }
+    let table = check(table)?;
+    read(table, false, first).map_err(Refusal::Pattern)?;
+    read(table, false, second).map_err(Refusal::Heading)?;
+    Ok(heading_degree(table, first, second))
 }
 
 // The part of the list that is the subterm at an index; the empty part at its start where there is none.
 pub fn subterm<'a>(table: &[u8], term: &'a [u16], index: usize) -> &'a [u16]
     ensures { Subterm table.now term.entry index result }
 {
-    if !accepts_term(table, term) {
+    let Some(table) = table_for_term(table, term) else {
         return &term[..0];
-    }
+    };
     if index >= term.len() {
         return &term[..0];
     }
@@ -61,60 +51,49 @@ pub fn nearer<'a>(table: &[u8], heading: &[u16], first: &'a [u16], second: &'a [
     ensures { Nearer table.now heading.now first.entry second.entry result }
 {
     match choose(table, heading, first, second) {
-        Choice::Neither => &first[..0],
-        Choice::First => first,
-        Choice::Second => second,
+        Some(Candidate::First) => first,
+        Some(Candidate::Second) => second,
+        None => &first[..0],
     }
 }
 
-// Which candidate is nearer, told without handing it back.
-pub fn choose(table: &[u8], heading: &[u16], first: &[u16], second: &[u16]) -> Choice
+// Which candidate is nearer, told without handing it back; none where something is refused.
+pub fn choose(table: &[u8], heading: &[u16], first: &[u16], second: &[u16]) -> Option<Candidate>
     ensures { Choose table.now heading.now first.now second.now result }
 {
-    if !accepts_headings(table, heading, first, second) {
-        return Choice::Neither;
-    }
+    let Some(table) = table_for_headings(table, heading, first, second) else {
+        return None;
+    };
     if heading_degree(table, heading, first) < heading_degree(table, heading, second) {
-        Choice::Second
+        Some(Candidate::Second)
     } else {
-        Choice::First
+        Some(Candidate::First)
     }
 }
 
-// Whether neither the table nor the term is refused.
-fn accepts_term(table: &[u8], term: &[u16]) -> bool
-    ensures { result ≡ accepted (first_of (subterm_rows table.now term.now)) }
+// The table, where neither it nor the term is refused.
+fn table_for_term<'a>(table: &'a [u8], term: &[u16]) -> Option<SoundTable<'a>>
+    ensures accepts { is_some result ≡ accepted (first_of (subterm_rows table.entry.now term.now)) }
+    ensures same_file { IfSome result (λ sound. sound.file.now ≡ table.entry.now) }
 {
-    match check(table) {
-        Checked::Refused(_) => false,
-        Checked::Sound => is_term(table, true, term),
-    }
+    let table = check(table).ok()?;
+    read(table, true, term).ok()?;
+    Some(table)
 }
 
-// Whether neither the table nor one of the three headings is refused.
-fn accepts_headings(table: &[u8], heading: &[u16], first: &[u16], second: &[u16]) -> bool
-    ensures { result ≡ accepted (first_of (nearer_rows table.now heading.now first.now second.now)) }
+// The table, where neither it nor one of the three headings is refused.
+fn table_for_headings<'a>(
+    table: &'a [u8],
+    heading: &[u16],
+    first: &[u16],
+    second: &[u16],
+) -> Option<SoundTable<'a>>
+    ensures accepts { is_some result ≡ accepted (first_of (nearer_rows table.entry.now heading.now first.now second.now)) }
+    ensures same_file { IfSome result (λ sound. sound.file.now ≡ table.entry.now) }
 {
-    match check(table) {
-        Checked::Refused(_) => false,
-        Checked::Sound => {
-            if !is_term(table, false, heading) {
-                return false;
-            }
-            if !is_term(table, false, first) {
-                return false;
-            }
-            is_term(table, false, second)
-        }
-    }
-}
-
-fn is_term(table: &[u8], variables: bool, list: &[u16]) -> bool
-    requires { SoundFile table.now }
-    ensures { result ≡ is_whole (reading (table_in table.now) variables list.now) }
-{
-    match read(table, variables, list) {
-        Reading::Whole => true,
-        Reading::Fault(_) => false,
-    }
+    let table = check(table).ok()?;
+    read(table, false, heading).ok()?;
+    read(table, false, first).ok()?;
+    read(table, false, second).ok()?;
+    Some(table)
 }
