@@ -4,3 +4,4 @@ pub mod Places
 pub mod Texts
 pub mod Tags
 pub mod Rows
+pub mod Chunks

@@ -1,85 +1,94 @@
--- Digits read one by one, and numbers of four and five digits.
-use mathlib.Core.Path.{◌≡◌, refl, ap, ◌∙◌}
-use mathlib.Core.List.{List}
-use mathlib.Core.Bool.{true, false}
-use Prim.Native.Nat.{ℕ, zero, suc, ◌+◌, ◌*◌, ◌-◌, ◌≤◌, ◌<◌}
-use native.Mathlib.Numerals.{add-one}
-use native.Mathlib.Omega.{arith}
-use borrow.Author.Tests.{leb-true}
-use lib.Dec.{leb}
-use lib.ListN.{get_or}
-use Rattle.theory.proofs.Lemmas.{and_left, and_right}
+-- Digits read one by one, and numbers that stand in a part of the bytes.
+use Rattle.std.proofs.Common.{◌≡◌, refl, sym, ap, ap₂, ◌∙◌, List, Option, Some, None, true, false, ℕ, zero, suc, ◌+◌, ◌*◌, ◌-◌, ◌^◌, ◌≤◌, ◌<◌, length, get_or, take, drop, arith, add-one, lit<}
+use Rattle.std.specs.Option.{IsSome}
+use Rattle.std.proofs.lemmas.Bool.{false≢true}
+use Rattle.std.proofs.Math.Nat.{pow-suc, pow-le-pow_right}
+use Rattle.std.proofs.lemmas.List.{get_or-take, get_or-drop, length-take-le, length-drop}
+use Rattle.marc_record.specs.Numbers.{NumberBy}
 use Rattle.marc.specs.Frame.{is_digit_lem, digits_at, value_at, decimal_at}
 
 -- one less is left
 pub left_suc : (k n : ℕ) → k < n → n - k ≡ suc (n - (k + 1))
 left_suc k n l = omega (arith, add-one (n - (k + 1)))
 
--- LAW: a byte that is no digit ends the test, a digit lets it go on
-pub digit_stops : (r : List ℕ) (at k n : ℕ) → k < n → is_digit_lem (get_or r (at + k) 0) ≡ false → digits_at r (at + k) (n - k) ≡ false
-unfolding digits_at
-digit_stops r at k n l e = rw (left_suc k n l, e)
+module _ (r : List ℕ) (k n : ℕ) (l : k < n) where
+  -- LAW: a byte that is no digit ends the test, a digit lets it go on
+  pub digit_stops : is_digit_lem (get_or r k 0) ≡ false → digits_at r k (n - k) ≡ false
+  unfolding digits_at
+  digit_stops e = rw (left_suc k n l, e)
 
-pub digit_goes : (r : List ℕ) (at k n : ℕ) → k < n → is_digit_lem (get_or r (at + k) 0) ≡ true → digits_at r (at + k) (n - k) ≡ digits_at r (at + (k + 1)) (n - (k + 1))
-unfolding digits_at
-digit_goes r at k n l e =
-    let i : at + k + 1 ≡ at + (k + 1) = omega arith in
-    rw (left_suc k n l, e) (ap (λ i. digits_at r i (n - (k + 1))) i)
+  pub digit_goes : is_digit_lem (get_or r k 0) ≡ true → digits_at r k (n - k) ≡ digits_at r (k + 1) (n - (k + 1))
+  unfolding digits_at
+  digit_goes e = rw (left_suc k n l, e)
 
-pub digits-none : (r : List ℕ) (at k n : ℕ) → n ≡ k → digits_at r (at + k) (n - k) ≡ true
-unfolding digits_at
-digits-none r at k n e = let z : n - k ≡ 0 = omega arith in rw z
-
--- LAW: the bytes that are digits
-pub digit_range : (b : ℕ) → is_digit_lem b ≡ true → (48 ≤ b) × (b ≤ 57)
-digit_range b e = (leb-true 48 b (and_left (leb 48 b) (leb b 57) e), leb-true b 57 (and_right (leb 48 b) (leb b 57) e))
-
--- LAW: each of the bytes is a digit
-pub is_digit_in : (r : List ℕ) (at n k i : ℕ) → digits_at r at n ≡ true → k < n → i ≡ at + k → is_digit_lem (get_or r i 0) ≡ true
-unfolding digits_at
-is_digit_in r at zero k i e l q = absurd (omega arith)
-is_digit_in r at (suc n) zero i e l q =
-    let here : i ≡ at = omega arith in
-    ap (λ i. is_digit_lem (get_or r i 0)) here ∙ and_left (is_digit_lem (get_or r at 0)) (digits_at r (at + 1) n) e
-is_digit_in r at (suc n) (suc k) i e l q = is_digit_in r (at + 1) n k i (and_right (is_digit_lem (get_or r at 0)) (digits_at r (at + 1) n) e) (omega arith) (omega arith)
-
--- ---- numbers of four and five digits
-
--- a digit and those behind it
-digit-first : (r : List ℕ) (at n : ℕ) → digits_at r at (suc n) ≡ true → (48 ≤ get_or r at 0) × (get_or r at 0 ≤ 57) × (digits_at r (at + 1) n ≡ true)
-unfolding digits_at
-digit-first r at n e =
-    let b = digit_range (get_or r at 0) (and_left (is_digit_lem (get_or r at 0)) (digits_at r (at + 1) n) e) in
-    (b.0, b.1, and_right (is_digit_lem (get_or r at 0)) (digits_at r (at + 1) n) e)
-
--- LAW: the bytes put together are as much more than the number that they write as 48 at each digit makes
-module _ (r : List ℕ) (at a b c d : ℕ) (p : a ≡ get_or r at 0) (q : b ≡ get_or r (at + 1) 0) (s : c ≡ get_or r (at + 2) 0) (t : d ≡ get_or r (at + 3) 0) where
-  third : c ≡ get_or r (at + 1 + 1) 0
-  third = let i : at + 2 ≡ at + 1 + 1 = omega arith in s ∙ ap (λ i. get_or r i 0) i
-
-  fourth : d ≡ get_or r (at + 1 + 1 + 1) 0
-  fourth = let i : at + 3 ≡ at + 1 + 1 + 1 = omega arith in t ∙ ap (λ i. get_or r i 0) i
-
-  pub four_is : digits_at r at 4 ≡ true → (((a * 10 + b) * 10 + c) * 10 + d ≡ decimal_at r at 4 + 53328) × (decimal_at r at 4 ≤ 9999)
+  -- LAW: a digit is put behind what is written already
+  pub digit_joins : (so : ℕ) → value_at r k (n - k) so ≡ value_at r (k + 1) (n - (k + 1)) (so * 10 + (get_or r k 0 - 48))
   unfolding value_at
-  four_is h =
-      let h1 = digit-first r at 3 h in
-      let h2 = digit-first r (at + 1) 2 h1.2 in
-      let h3 = digit-first r (at + 1 + 1) 1 h2.2 in
-      let h4 = digit-first r (at + 1 + 1 + 1) 0 h3.2 in
-      (omega (arith, p, q, third, fourth, h1.0, h2.0, h3.0, h4.0), omega (arith, h1.1, h2.1, h3.1, h4.1))
+  digit_joins so = rw (left_suc k n l)
 
--- LAW: and with a fifth
-pub five_is : (r : List ℕ) (at : ℕ) → decimal_at r at 4 * 10 + (get_or r (at + 4) 0 - 48) ≡ decimal_at r at 5
-unfolding value_at
-five_is r at =
-    let i : at + 4 ≡ at + 1 + 1 + 1 + 1 = omega arith in
-    omega (arith, ap (λ i. get_or r i 0) i)
-
--- LAW: digits without the last
-pub digits_fewer : (r : List ℕ) (at n : ℕ) → digits_at r at (suc n) ≡ true → digits_at r at n ≡ true
+-- LAW: no byte is left
+pub digits-none : (r : List ℕ) (k n : ℕ) → n ≤ k → digits_at r k (n - k) ≡ true
 unfolding digits_at
-digits_fewer r at zero e = refl
-digits_fewer r at (suc n) e =
-    let first = is_digit_lem (get_or r at 0) in
-    rw (and_left first (digits_at r (at + 1) (suc n)) e) (digits_fewer r (at + 1) n (and_right first (digits_at r (at + 1) (suc n)) e))
+digits-none r k n l = let none_left : n - k ≡ 0 = omega arith in rw none_left
+
+pub value-none : (r : List ℕ) (k n so : ℕ) → n ≤ k → value_at r k (n - k) so ≡ so
+unfolding value_at
+value-none r k n so l = let none_left : n - k ≡ 0 = omega arith in rw none_left
+
+-- LAW: and the number keeps to its digits
+pub one_digit_more : (n d i : ℕ) → n < 10 ^ i → d ≤ 9 → n * 10 + d < 10 ^ (i + 1)
+one_digit_more n d i l m = rw (add-one i, pow-suc 10 i) (omega arith)
+
+pub at_most_five : (n i : ℕ) → n < 10 ^ i → i ≤ 5 → n ≤ 99999
+at_most_five n i l m = let e : 10 ^ i ≤ 10 ^ 5 = pow-le-pow_right (lit< tt) m in omega arith
+
+-- ---- a number that stands in a part of the bytes
+
+-- Some byte of the n from `at` on is no digit; or all are, and this is the number that they write.
+abbrev pub NumberAt : List ℕ → ℕ → ℕ → Option ℕ → Type 0
+NumberAt r at n None = digits_at r at n ≡ false
+NumberAt r at n (Some m) = (digits_at r at n ≡ true) × (m ≡ decimal_at r at n) × (m ≤ 99999)
+
+module _ (r : List ℕ) (at n : ℕ) where
+  byte : (k : ℕ) → k < n → get_or (take n (drop at r)) k 0 ≡ get_or r (at + k) 0
+  byte k l = get_or-take n (drop at r) k 0 l ∙ get_or-drop at r k 0
+
+  digits-part : (k m : ℕ) → k + m ≤ n → digits_at (take n (drop at r)) k m ≡ digits_at r (at + k) m
+  unfolding digits_at
+  digits-part k zero l = refl
+  digits-part k (suc m) l =
+      let next : at + (k + 1) ≡ at + k + 1 = omega arith in
+      rw (byte k (omega arith), digits-part (k + 1) m (omega arith), next)
+
+  value-part : (k m so : ℕ) → k + m ≤ n → value_at (take n (drop at r)) k m so ≡ value_at r (at + k) m so
+  unfolding value_at
+  value-part k zero so l = refl
+  value-part k (suc m) so l =
+      let next : at + (k + 1) ≡ at + k + 1 = omega arith in
+      rw (byte k (omega arith), value-part (k + 1) m (so * 10 + (get_or r (at + k) 0 - 48)) (omega arith), next)
+
+  -- LAW: what is read of a part is what stands there
+  module _ (k : ℕ) (e : k ≡ n) (l : at + n ≤ length r) where
+    part : take k (drop at r) ≡ take n (drop at r)
+    part = ap (λ k. take k (drop at r)) e
+
+    long : length (take k (drop at r)) ≡ n
+    long = ap length part ∙ length-take-le n (drop at r) (omega (arith, length-drop at r))
+
+    start : at + 0 ≡ at
+    start = omega arith
+
+    digits_are : digits_at (take k (drop at r)) 0 (length (take k (drop at r))) ≡ digits_at r at n
+    digits_are = ap₂ (λ xs m. digits_at xs 0 m) part long ∙ digits-part 0 n (omega arith) ∙ ap (λ i. digits_at r i n) start
+
+    value_is : decimal_at (take k (drop at r)) 0 (length (take k (drop at r))) ≡ decimal_at r at n
+    value_is = ap₂ (λ xs m. decimal_at xs 0 m) part long ∙ value-part 0 n 0 (omega arith) ∙ ap (λ i. decimal_at r i n) start
+
+    pub number_stands : (o : Option ℕ) → NumberBy (take k (drop at r)) o → NumberAt r at n o
+    number_stands None h = sym digits_are ∙ h
+    number_stands (Some m) h = (sym digits_are ∙ h.0, h.1 ∙ value_is, h.2)
+
+-- LAW: digits write a number
+pub is_number : (r : List ℕ) (at n : ℕ) (o : Option ℕ) → NumberAt r at n o → digits_at r at n ≡ true → IsSome o
+is_number r at n None h e = absurd (false≢true (sym h ∙ e))
+is_number r at n (Some m) h e = refl

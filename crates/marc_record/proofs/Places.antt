@@ -1,22 +1,20 @@
--- The first place, as a loop seeks it; and that what passes the tests is written in digits.
-use mathlib.Core.Path.{◌≡◌}
+-- The first place, as a loop seeks it.
+use Rattle.std.proofs.Common.{Option, Some, None, ◌≡◌, refl, sym}
 use mathlib.Core.List.{List}
-use mathlib.Core.Bool.{true, false, ◌||◌, not}
-use mathlib.Core.Option.{Option, none, some as just}
-use Prim.Native.Nat.{ℕ, zero, suc, ◌+◌, ◌-◌, ◌%◌, ◌<◌}
+use mathlib.Core.Option.{Option as Maybe, none, some as just}
+use Prim.Native.Nat.{ℕ, zero, suc, ◌+◌, ◌-◌, ◌<◌}
 use native.Mathlib.Decide.{dec_lt}
 use native.Mathlib.Numerals.{add-one}
 use native.Mathlib.Omega.{arith}
-use borrow.Author.Tests.{not-false}
-use lib.Dec.{eqb, ltb}
-use lib.ListN.{length}
-use Rattle.theory.proofs.Lemmas.{both_false}
-use Rattle.meaning.specs.Refusals.{first}
-use Rattle.meaning.proofs.First.{all_silent}
-use Rattle.marc.specs.Frame.{digits_at, base_address, entry_count, entry_at, field_length, field_end, at_if, first_place, bad_base, bad_field_length, bad_field_start, entry_fault, frame_rows}
-use Rattle.marc.proofs.Frames.{or_none, at_none, no_place}
+use borrow.Author.Tests.{eq-eqb, ne_eqb}
+use lib.ListN.{get_or}
+use Rattle.marc.specs.Frame.{field_end, field_mark, first_place}
+use Rattle.std.specs.Option.{option_or}
+use Rattle.theory.specs.Least.{or_else}
+use Rattle.marc_record.specs.Found.{found}
+use Rattle.marc_record.specs.Frames.{unended}
 
-module _ (f : ℕ → Option ℕ) where
+module _ (f : ℕ → Maybe ℕ) where
   -- LAW: none for the numbers below k, and none for k
   pub place_on : (k : ℕ) → first_place k f ≡ none → f k ≡ none → first_place (k + 1) f ≡ none
   place_on k e q = rw (add-one k) (rw (e, q))
@@ -30,26 +28,18 @@ module _ (f : ℕ → Option ℕ) where
       go (yes m) rest = rw (rest m)
       go (no m) rest = let s : n ≡ k = omega arith in rw (s, e, q)
 
--- LAW: a base address that passes is a number
-pub base_number : (r : List ℕ) → bad_base r ≡ false → digits_at r 12 5 ≡ true
-base_number r fine =
-    let a = not (digits_at r 12 5) in
-    let b = ltb (base_address r) 25 in
-    let c = not (eqb ((base_address r - 25) % 12) 0) in
-    let d = not (ltb (base_address r) (length r)) in
-    not-false _ (both_false a b (both_false (a || b) c (both_false (a || b || c) d fine).0).0).0
+-- LAW: the first field without its mark, where one more field is looked at
+module _ (r : List ℕ) (e last : ℕ) (o : Option ℕ) (so_far : found o ≡ first_place e (unended r)) (at : last ≡ field_end r e - 1) where
+  pub mark_missed : (get_or r last 0 ≡ field_mark → ⊥) → found (option_or o (Some last)) ≡ first_place (e + 1) (unended r)
+  mark_missed n = rw (add-one e, sym so_far, sym at, ne_eqb (get_or r last 0) field_mark n) (go o)
+    where
+      go : (o : Option ℕ) → found (option_or o (Some last)) ≡ or_else (found o) (just last)
+      go None = refl
+      go (Some place) = refl
 
--- LAW: in a record that passes the base address and the numbers of each entry are numbers
-module _ (r : List ℕ) (passes : first (frame_rows r) ≡ none) where
-  pub base_digits : digits_at r 12 5 ≡ true
-  unfolding frame_rows
-  base_digits = base_number r (at_none 12 (bad_base r) (all_silent (frame_rows r) passes).1.1.0)
-
-  pub entry_digits : (e : ℕ) → e < entry_count r → (digits_at r (entry_at e + 3) 4 ≡ true) × (digits_at r (entry_at e + 7) 5 ≡ true)
-  unfolding frame_rows
-  entry_digits e l =
-      let fine = no_place (entry_count r) (entry_fault r) (all_silent (frame_rows r) passes).1.1.1.0 e l in
-      let o = or_none (at_if (entry_at e + 3) (bad_field_length r e)) (at_if (entry_at e + 7) (bad_field_start r e)) fine in
-      let long = both_false (not (digits_at r (entry_at e + 3) 4)) (eqb (field_length r e) 0) (at_none (entry_at e + 3) (bad_field_length r e) o.0) in
-      let start = both_false (not (digits_at r (entry_at e + 7) 5)) (not (ltb (field_end r e) (length r))) (at_none (entry_at e + 7) (bad_field_start r e) o.1) in
-      (not-false _ long.0, not-false _ start.0)
+  pub mark_stands : get_or r last 0 ≡ field_mark → found o ≡ first_place (e + 1) (unended r)
+  mark_stands m = rw (add-one e, sym so_far, sym at, eq-eqb (get_or r last 0) field_mark m) (go o)
+    where
+      go : (o : Option ℕ) → found o ≡ or_else (found o) none
+      go None = refl
+      go (Some place) = refl

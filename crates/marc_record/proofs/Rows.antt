@@ -1,7 +1,9 @@
 -- The rows of the frame, one after the other: each that holds knows that those before it are silent.
-use mathlib.Core.Path.{◌≡◌, ap}
+use mathlib.Core.Path.{◌≡◌, sym, ap, ◌∙◌}
+use Rattle.std.proofs.Common.{Option, Some, None}
+use Rattle.std.specs.Option.{option_eq}
 use mathlib.Core.List.{List}
-use mathlib.Core.Bool.{false, true, ◌||◌, not}
+use mathlib.Core.Bool.{false, true, false≢true, ◌||◌, not}
 use mathlib.Core.Option.{none, some as just}
 use Prim.Native.Nat.{ℕ, ◌-◌, ◌/◌, ◌%◌, ◌≤◌, ◌<◌}
 use native.Mathlib.Omega.{arith}
@@ -11,6 +13,7 @@ use lib.ListN.{length, get_or}
 use Rattle.meaning.specs.Refusals.{refusal, first}
 use Rattle.theory.proofs.Lemmas.{both_false}
 use Rattle.marc.specs.Frame.{digits_at, record_length, base_address, entry_count, entry_fault, field_mark, record_mark, first_place, bad_base, frame_rows}
+use Rattle.marc_record.proofs.Numbers.{NumberAt}
 use Rattle.marc_record.specs.Frames.{Directory, unended, field_rows}
 
 module _ (r : List ℕ) where
@@ -76,3 +79,12 @@ module _ (r : List ℕ) where
         pub behind_leader : bad_base r ≡ false → first (field_rows r) ≡ first (frame_rows r)
         unfolding frame_rows field_rows
         behind_leader e = rw (le-ltb (length r) 26 long, number, eq-eqb (record_length r) (length r) size, e)
+
+-- LAW: the record's length, where it was read
+pub length_is : (r : List ℕ) (o : Option ℕ) → NumberAt r 0 5 o → not (option_eq eqb o (Some (length r))) ≡ false → (digits_at r 0 5 ≡ true) × (record_length r ≡ length r)
+length_is r None h e = cc
+length_is r (Some n) h e = (h.0, sym h.1 ∙ eqb-true n (length r) (not-false _ e))
+
+pub length_is_not : (r : List ℕ) (o : Option ℕ) → 26 ≤ length r → NumberAt r 0 5 o → not (option_eq eqb o (Some (length r))) ≡ true → just (refusal 17 0) ≡ first (frame_rows r)
+length_is_not r None long h e = no_length r long h
+length_is_not r (Some n) long h e = other_length r long h.0 (λ same. false≢true (sym (ap not (eq-eqb n (length r) (h.1 ∙ same))) ∙ e))

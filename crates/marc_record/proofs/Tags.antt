@@ -1,42 +1,49 @@
--- The first field with the tag 100, as a loop over the entries seeks it.
-use mathlib.Core.Path.{◌≡◌, sym as inv, ap, ◌∙◌}
-use mathlib.Core.List.{List, [], ◌∷◌}
-use mathlib.Core.Bool.{true, false}
-use mathlib.Core.Option.{none, some as just}
-use Prim.Native.Nat.{ℕ, suc, ◌+◌, ◌-◌, ◌≤◌, ◌<◌}
-use native.Mathlib.Numerals.{add-one}
-use native.Mathlib.Omega.{arith}
-use lib.ListN.{length, get_or, take, drop}
+-- The first field with the tag 100 is that of the first entry in the directory that begins with 100.
+use Rattle.std.proofs.Common.{◌≡◌, refl, sym, ap, ◌∙◌, List, Bool, true, false, ℕ, zero, suc, ◌+◌, ◌*◌, ◌-◌, ◌≤◌, ◌<◌, take, drop, eqb, arith}
+use Rattle.std.proofs.Math.Option.{none, some as just}
+use native.Mathlib.Decide.{dec_lt}
+use Rattle.std.specs.Cmp.Lexicographic.{pointwise}
+use Rattle.std.proofs.lemmas.Bool.{false≢true}
+use Rattle.std.proofs.lemmas.List.{take-take, drop-take, drop-drop}
+use Rattle.std.proofs.lemmas.Slice.Eq.{bytes_eq-Decides}
 use Rattle.marc.specs.Frame.{entry_at, field_length, field_at, fields_from}
 use Rattle.marc.specs.Known.{same}
 use Rattle.marc.specs.Heading.{tag100, first_with}
-use Rattle.marc.proofs.Strings.{left_is}
+use Rattle.marc.proofs.Strings.{true_same, not_same}
+use Rattle.marc_record.specs.Directories.{tagged}
 
--- LAW: three bytes
-pub three_bytes : (r : List ℕ) (at : ℕ) → at + 3 ≤ length r → take 3 (drop at r) ≡ get_or r at 0 ∷ get_or r (at + 1) 0 ∷ get_or r (at + 2) 0 ∷ []
-three_bytes r at l =
-    let i : at + 1 + 1 ≡ at + 2 = omega arith in
-    let a = left_is r at (omega arith) in
-    let b = left_is r (at + 1) (omega arith) ∙ ap (λ k. get_or r (at + 1) 0 ∷ drop k r) i in
-    let c = left_is r (at + 2) (omega arith) in
-    ap (take 3) (a ∙ ap (λ t. get_or r at 0 ∷ t) (b ∙ ap (λ t. get_or r (at + 1) 0 ∷ t) c))
+compares : (xs ys : List ℕ) → same xs ys ≡ pointwise eqb ys xs
+compares xs ys = go (pointwise eqb ys xs) refl
+  where
+    go : (b : Bool) → pointwise eqb ys xs ≡ b → same xs ys ≡ pointwise eqb ys xs
+    go true e = true_same xs ys (sym ((bytes_eq-Decides ys xs).0 e)) ∙ sym e
+    go false e = not_same xs ys (λ q. false≢true (sym e ∙ (bytes_eq-Decides ys xs).1 (sym q))) ∙ sym e
 
-module _ (r : List ℕ) (e left : ℕ) (l : 0 < left) where
-  one_more : left ≡ suc (left - 1)
-  one_more = omega (arith, add-one (left - 1))
+-- LAW: an entry of the directory has the tag where its bytes in the record have it
+pub tag_is : (r : List ℕ) (size k : ℕ) → k * 12 + 12 ≤ size → same (take 3 (drop (entry_at k) r)) tag100 ≡ tagged (take size (drop 24 r)) k
+tag_is r size k l =
+    let at : 24 + k * 12 ≡ entry_at k = omega arith in
+    let fits : size ≡ k * 12 + (size - k * 12) = omega arith in
+    let entry : drop (k * 12) (take size (drop 24 r)) ≡ take (size - k * 12) (drop (entry_at k) r) =
+    ap (λ n. drop (k * 12) (take n (drop 24 r))) fits ∙ drop-take (k * 12) (size - k * 12) (drop 24 r) ∙ ap (take (size - k * 12)) (drop-drop (k * 12) 24 r ∙ ap (λ i. drop i r) at) in
+    let tag : take 3 (take 12 (drop (k * 12) (take size (drop 24 r)))) ≡ take 3 (drop (entry_at k) r) =
+    take-take 3 12 _ (omega arith) ∙ ap (take 3) entry ∙ take-take 3 (size - k * 12) (drop (entry_at k) r) (omega arith) in
+    compares (take 3 (drop (entry_at k) r)) tag100 ∙ sym (ap (pointwise eqb tag100) tag)
 
-  -- LAW: the entry has the tag, or the search goes on
-  pub tag_here : same (take 3 (drop (entry_at e) r)) tag100 ≡ true → first_with tag100 (fields_from r e left) ≡ just (take (field_length r e - 1) (drop (field_at r e) r))
+module _ (r : List ℕ) where
+  -- LAW: no entry has the tag
+  pub no_field : (e n : ℕ) → ((k : ℕ) → e ≤ k → k < e + n → same (take 3 (drop (entry_at k) r)) tag100 ≡ false) → first_with tag100 (fields_from r e n) ≡ none
   unfolding first_with
-  tag_here q = rw (one_more, q)
+  no_field e zero h = refl
+  no_field e (suc n) h = rw (h e (omega arith) (omega arith)) (no_field (suc e) n (λ k m l. h k (omega arith) (omega arith)))
 
-  pub tag_next : same (take 3 (drop (entry_at e) r)) tag100 ≡ false → first_with tag100 (fields_from r e left) ≡ first_with tag100 (fields_from r (e + 1) (left - 1))
+  -- LAW: the first that has it
+  pub field_of : (e n i : ℕ) → e ≤ i → i < e + n → same (take 3 (drop (entry_at i) r)) tag100 ≡ true → ((k : ℕ) → e ≤ k → k < i → same (take 3 (drop (entry_at k) r)) tag100 ≡ false)
+      → first_with tag100 (fields_from r e n) ≡ just (take (field_length r i - 1) (drop (field_at r i) r))
   unfolding first_with
-  tag_next q = ap (λ n. first_with tag100 (fields_from r e n)) one_more ∙ go ∙ ap (λ k. first_with tag100 (fields_from r k (left - 1))) (inv (add-one e))
+  field_of e zero i m l t h = absurd (omega arith)
+  field_of e (suc n) i m l t h = go (dec_lt e i) (λ p. field_of (suc e) n i p (omega arith) t (λ k q u. h k (omega arith) u))
     where
-      go : first_with tag100 (fields_from r e (suc (left - 1))) ≡ first_with tag100 (fields_from r (suc e) (left - 1))
-      go = rw q
-
-pub tag_none : (r : List ℕ) (e left : ℕ) → left ≡ 0 → first_with tag100 (fields_from r e left) ≡ none
-unfolding first_with
-tag_none r e left z = rw z
+      go : Dec (e < i) → (e < i → first_with tag100 (fields_from r (suc e) n) ≡ just (take (field_length r i - 1) (drop (field_at r i) r))) → first_with tag100 (fields_from r e (suc n)) ≡ just (take (field_length r i - 1) (drop (field_at r i) r))
+      go (yes p) rest = rw (h e (omega arith) p) (rest p)
+      go (no p) rest = let here : e ≡ i = omega arith in rw (here, t)

@@ -1,93 +1,65 @@
--- A field read byte by byte: what is left of it at each step.
-use mathlib.Core.Path.{◌≡◌, refl, sym as inv, ap, ◌∙◌}
-use mathlib.Core.List.{List, [], ◌∷◌, ◌++◌, append_assoc, append-nil}
-use mathlib.Core.Bool.{Bool, true, false, ◌&&◌}
-use mathlib.Core.Option.{none, some as just}
-use Prim.Native.Nat.{ℕ, suc, ◌+◌, ◌-◌, ◌≤◌, ◌<◌}
-use native.Mathlib.Numerals.{add-one}
-use native.Mathlib.Omega.{arith}
-use borrow.Author.Tests.{eq-eqb, ne_eqb}
-use lib.Dec.{eqb}
-use lib.ListN.{length, get_or, take, drop, length-drop, drop_of_length-le}
-use lib.Seq.{take-suc, get_or-drop}
-use Rattle.marc.proofs.Strings.{left_is}
-use Rattle.marc.specs.Subfields.{subfield_mark, text_to, has_code, text_of}
+-- Where a text ends, and where the first subfield with a code opens.
+use Rattle.std.proofs.Common.{◌≡◌, refl, sym, ap, ◌∙◌, List, [], ◌∷◌, Option, Bool, true, false, ◌&&◌, ℕ, zero, suc, ◌+◌, ◌<◌, length, get_or, take, drop, eqb, arith, add-one}
+use borrow.Author.Tests.{eq-eqb, ne_eqb, eqb-true}
+use Rattle.std.specs.Option.{MatchOption, unwrap_or}
+use Rattle.std.specs.List.{HoldsAt, AllWithin}
+use Rattle.std.proofs.lemmas.Iterator.{index_from_first}
+use Rattle.std.proofs.Math.Bool.{and-false}
+use Rattle.std.proofs.Math.Option.{none, some as just}
+use Rattle.marc_record.specs.Openings.{Opens}
+use Rattle.marc.specs.Subfields.{subfield_mark, text_to, text_of}
 
 -- ---- where a text ends
 
-module _ (f : List ℕ) (from : ℕ) where
-  pub text_begins : text_to (drop from f) ≡ take (from - from) (drop from f) ++ text_to (drop from f)
-  text_begins = let z : from - from ≡ 0 = omega arith in rw z
-
-  -- LAW: a byte more
-  pub text_on : (i : ℕ) → from ≤ i → i < length f → (get_or f i 0 ≡ subfield_mark → ⊥) → text_to (drop from f) ≡ take (i - from) (drop from f) ++ text_to (drop i f)
-      → text_to (drop from f) ≡ take (i + 1 - from) (drop from f) ++ text_to (drop (i + 1) f)
-  text_on i g l n e =
-      let D = drop from f in
-      let b = get_or f i 0 in
-      let here : text_to (drop i f) ≡ b ∷ text_to (drop (i + 1) f) = ap text_to (left_is f i l) ∙ not_mark in
-      let at : from + (i - from) ≡ i = omega arith in
-      let byte : get_or D (i - from) 0 ≡ b = get_or-drop from f (i - from) 0 ∙ ap (λ k. get_or f k 0) at in
-      let more : i + 1 - from ≡ suc (i - from) = omega (arith, add-one (i - from)) in
-      let taken : take (i + 1 - from) D ≡ take (i - from) D ++ (b ∷ []) =
-      ap (λ k. take k D) more ∙ take-suc D (i - from) 0 (omega (arith, length-drop from f)) ∙ ap (λ x. take (i - from) D ++ (x ∷ [])) byte in
-      e ∙ ap (λ t. take (i - from) D ++ t) here ∙ inv (append_assoc (take (i - from) D) (b ∷ []) (text_to (drop (i + 1) f))) ∙ ap (λ t. t ++ text_to (drop (i + 1) f)) (inv taken)
-    where
-      not_mark : text_to (get_or f i 0 ∷ drop (i + 1) f) ≡ get_or f i 0 ∷ text_to (drop (i + 1) f)
-      not_mark = rw (ne_eqb (get_or f i 0) subfield_mark n)
-
-  -- LAW: nothing more
-  pub text_ends : (i : ℕ) → text_to (drop i f) ≡ [] → text_to (drop from f) ≡ take (i - from) (drop from f) ++ text_to (drop i f) → take (i - from) (drop from f) ≡ text_to (drop from f)
-  text_ends i q e = inv (e ∙ ap (λ t. take (i - from) (drop from f) ++ t) q ∙ append-nil (take (i - from) (drop from f)))
-
-pub ends_at_mark : (f : List ℕ) (i : ℕ) → i < length f → get_or f i 0 ≡ subfield_mark → text_to (drop i f) ≡ []
-ends_at_mark f i l e = ap text_to (left_is f i l) ∙ go
+text_takes : (xs : List ℕ) → take (length (text_to xs)) xs ≡ text_to xs
+text_takes [] = refl
+text_takes (b ∷ bs) = go (eqb b subfield_mark) refl (text_takes bs)
   where
-    go : text_to (get_or f i 0 ∷ drop (i + 1) f) ≡ []
-    go = rw (eq-eqb (get_or f i 0) subfield_mark e)
+    go : (e : Bool) → eqb b subfield_mark ≡ e → take (length (text_to bs)) bs ≡ text_to bs → take (length (text_to (b ∷ bs))) (b ∷ bs) ≡ text_to (b ∷ bs)
+    go true e rest = rw e
+    go false e rest = rw e (ap (λ t. b ∷ t) rest)
 
-pub ends_at_end : (f : List ℕ) (i : ℕ) → length f ≤ i → text_to (drop i f) ≡ []
-ends_at_end f i l = ap text_to (drop_of_length-le f l)
+-- LAW: a text ends at the first mark, or with all bytes
+pub text_ends : (xs : List ℕ) (first : Option ℕ) → MatchOption first (AllWithin (λ b. b ≡ subfield_mark → ⊥) xs 0 (length xs)) (λ i. (i < length xs) × HoldsAt (λ b. b ≡ subfield_mark) xs i × AllWithin (λ b. b ≡ subfield_mark → ⊥) xs 0 i)
+    → take (unwrap_or first (length xs)) xs ≡ text_to xs
+text_ends xs first h =
+    let size : length (text_to xs) ≡ unwrap_or first (length xs) = index_from_first (λ bs. length (text_to bs)) (λ b. b ≡ subfield_mark) (λ b. b ≡ subfield_mark → ⊥) refl (λ b bs m. rw (eq-eqb b subfield_mark m)) (λ b bs n. rw (ne_eqb b subfield_mark n, add-one)) xs first h in
+    ap (λ n. take n xs) (sym size) ∙ text_takes xs
 
 -- ---- the first subfield with a code
 
-module _ (f : List ℕ) (code i : ℕ) where
-  -- LAW: it opens here
-  pub opens : i + 1 < length f → get_or f i 0 ≡ subfield_mark → get_or f (i + 1) 0 ≡ code → text_of code (drop i f) ≡ just (text_to (drop (i + 2) f))
+module _ (code : ℕ) where
+  later : (b : ℕ) (bs : List ℕ) (k : ℕ) → get_or (b ∷ bs) (k + 1) 0 ≡ get_or bs k 0
+  later b bs k = rw (add-one k)
+
+  opens_later : (b : ℕ) (bs : List ℕ) (k : ℕ) → Opens code bs k → Opens code (b ∷ bs) (k + 1)
+  opens_later b bs k o = (later b bs k ∙ o.0, later b bs (k + 1) ∙ o.1)
+
+  opens_sooner : (b : ℕ) (bs : List ℕ) (k : ℕ) → Opens code (b ∷ bs) (k + 1) → Opens code bs k
+  opens_sooner b bs k o = (sym (later b bs k) ∙ o.0, sym (later b bs (k + 1)) ∙ o.1)
+
+  passed : (b c : ℕ) (cs : List ℕ) → (Opens code (b ∷ c ∷ cs) 0 → ⊥) → (eqb b subfield_mark && eqb c code) ≡ false
+  passed b c cs n = go (eqb b subfield_mark) (eqb c code) refl refl
+    where
+      go : (m d : Bool) → eqb b subfield_mark ≡ m → eqb c code ≡ d → (m && d) ≡ false
+      go true true e f = absurd (n (eqb-true b subfield_mark e, eqb-true c code f))
+      go true false e f = refl
+      go false d e f = refl
+
+  -- LAW: none opens
+  pub text-none : (xs : List ℕ) → ((k : ℕ) → k + 1 < length xs → Opens code xs k → ⊥) → text_of code xs ≡ none
   unfolding text_of
-  opens l m c =
-      let two : i + 1 + 1 ≡ i + 2 = omega arith in
-      let next : drop (i + 1) f ≡ get_or f (i + 1) 0 ∷ drop (i + 2) f = left_is f (i + 1) l ∙ ap (λ k. get_or f (i + 1) 0 ∷ drop k f) two in
-      ap (text_of code) (left_is f i (omega arith) ∙ ap (λ t. get_or f i 0 ∷ t) next) ∙ go
-    where
-      go : text_of code (get_or f i 0 ∷ get_or f (i + 1) 0 ∷ drop (i + 2) f) ≡ just (text_to (drop (i + 2) f))
-      go = rw (eq-eqb (get_or f i 0) subfield_mark m, eq-eqb (get_or f (i + 1) 0) code c)
+  text-none [] h = refl
+  text-none (b ∷ []) h = rw (and-false (eqb b subfield_mark))
+  text-none (b ∷ c ∷ cs) h = rw (passed b c cs (h 0 (omega arith))) (text-none (c ∷ cs) (λ k l o. h (k + 1) (omega arith) (opens_later b (c ∷ cs) k o)))
 
-  -- LAW: it does not open here
-  no_open : i < length f → (eqb (get_or f i 0) subfield_mark && has_code code (drop (i + 1) f)) ≡ false → text_of code (drop i f) ≡ text_of code (drop (i + 1) f)
+  -- LAW: it is the first that opens
+  pub text_opened : (xs : List ℕ) (at : ℕ) → at + 1 < length xs → Opens code xs at → ((k : ℕ) → k < at → Opens code xs k → ⊥) → text_of code xs ≡ just (text_to (drop (at + 2) xs))
   unfolding text_of
-  no_open l e = ap (text_of code) (left_is f i l) ∙ go
-    where
-      go : text_of code (get_or f i 0 ∷ drop (i + 1) f) ≡ text_of code (drop (i + 1) f)
-      go = rw e
-
-  pub no_mark : i < length f → (get_or f i 0 ≡ subfield_mark → ⊥) → text_of code (drop i f) ≡ text_of code (drop (i + 1) f)
-  no_mark l n = no_open l (rw (ne_eqb (get_or f i 0) subfield_mark n))
-
-  pub no_code : i < length f → length f ≤ i + 1 → text_of code (drop i f) ≡ text_of code (drop (i + 1) f)
-  no_code l e = no_open l (ap (λ t. eqb (get_or f i 0) subfield_mark && has_code code t) (drop_of_length-le f e) ∙ and_false (eqb (get_or f i 0) subfield_mark))
-    where
-      and_false : (b : Bool) → (b && false) ≡ false
-      and_false true = refl
-      and_false false = refl
-
-  pub other_code : i + 1 < length f → (get_or f (i + 1) 0 ≡ code → ⊥) → text_of code (drop i f) ≡ text_of code (drop (i + 1) f)
-  other_code l n = no_open (omega arith) (ap (λ t. eqb (get_or f i 0) subfield_mark && has_code code t) (left_is f (i + 1) l) ∙ go (eqb (get_or f i 0) subfield_mark))
-    where
-      go : (b : Bool) → (b && eqb (get_or f (i + 1) 0) code) ≡ false
-      go true = ne_eqb (get_or f (i + 1) 0) code n
-      go false = refl
-
-  pub none_left : length f ≤ i → text_of code (drop i f) ≡ none
-  unfolding text_of
-  none_left l = ap (text_of code) (drop_of_length-le f l)
+  text_opened [] at l o h = absurd (omega arith)
+  text_opened (b ∷ []) at l o h = absurd (omega arith)
+  text_opened (b ∷ c ∷ cs) zero l o h = rw (eq-eqb b subfield_mark o.0, eq-eqb c code o.1)
+  text_opened (b ∷ c ∷ cs) (suc at) l o h =
+      let next : suc at + 2 ≡ suc (at + 2) = omega (arith, add-one (at + 2), add-one at) in
+      let rest = text_opened (c ∷ cs) at (omega (arith, add-one at)) (opens_sooner b (c ∷ cs) at (rw (add-one at) o)) (λ k m p. h (k + 1) (omega (arith, add-one at)) (opens_later b (c ∷ cs) k p)) in
+      rw (passed b c cs (h 0 (omega (arith, add-one at))), next) rest

@@ -1,15 +1,9 @@
 -- What the code keeps of a record's frame while it tests it.
-use Rattle.std.specs.Prelude.{◌≡◌, List, [], ◌∷◌, ℕ, ◌+◌, ◌*◌, ◌-◌, ◌≤◌, ◌<◌, length}
-use Rattle.std.proofs.Math.Option.{Option, none, some as just}
+use Rattle.std.specs.Prelude.{◌≡◌, List, [], ◌∷◌, Option, Some, None, Result, Ok, Err, true, false, ℕ, ◌+◌, ◌*◌, ◌-◌, ◌≤◌, ◌<◌, length}
+use Rattle.std.proofs.Math.Option.{Option as Place, none, some as just}
 use Rattle.meaning.specs.Refusals.{Refusal, refusal, Row, row}
-use Rattle.marc.specs.Frame.{base_address, entry_count, entry_fault, field_end, field_mark, record_mark, unmarked, first_place}
-use Rattle.table.specs.Places.{place_in}
-use Rattle.marc_record.specs.declared.frame.Entry.{Entry}
-use Rattle.marc_record.specs.declared.frame.Entry.TheVariants.{Bad as OneBad, Ends}
-use Rattle.marc_record.specs.declared.frame.Entries.{Entries}
-use Rattle.marc_record.specs.declared.frame.Entries.TheVariants.{Bad, Fine}
-use Rattle.table.specs.declared.rules.Place.{Place}
-use Rattle.table.specs.declared.rules.Place.TheVariants.{At, Nowhere}
+use Rattle.marc_record.specs.Found.{found}
+use Rattle.marc.specs.Frame.{base_address, entry_count, entry_fault, field_end, field_mark, record_mark, unmarked, first_place, bad_base}
 
 -- The base address and the count of entries, as read; the directory with its mark lies inside, and the base address too.
 pub record Directory (r : List ℕ) (base entries : ℕ) : Type 0 where
@@ -19,19 +13,24 @@ pub record Directory (r : List ℕ) (base entries : ℕ) : Type 0 where
   pub inside : base < length r
   pub small : base ≤ 99999
 
+-- What is read of the base address.
+abbrev pub BaseBy : List ℕ → Option ℕ → Type 0
+BaseBy r None = bad_base r ≡ true
+BaseBy r (Some base) = (bad_base r ≡ false) × (base ≡ base_address r) × (base ≤ 99999)
+
 -- a field that does not end with its mark
-abbrev pub unended : List ℕ → ℕ → Option ℕ
+abbrev pub unended : List ℕ → ℕ → Place ℕ
 unended r e = unmarked r (field_end r e - 1) field_mark
 
--- What an entry tells: its fault, or where its field ends.
-abbrev pub EntryTells : List ℕ → ℕ → Entry → Type 0
-EntryTells r e (OneBad place) = entry_fault r e ≡ just place
-EntryTells r e (Ends end) = (entry_fault r e ≡ none) × (end ≡ field_end r e) × (0 < end) × (end < length r)
+-- What an entry tells: where its field ends, or its fault.
+abbrev pub EntryTells : List ℕ → ℕ → Result ℕ ℕ → Type 0
+EntryTells r e (Ok end) = (entry_fault r e ≡ none) × (end ≡ field_end r e) × (0 < end) × (end < length r)
+EntryTells r e (Err place) = entry_fault r e ≡ just place
 
--- What all tell: the first fault, or the first field without its mark.
-abbrev pub EntriesTell : List ℕ → Entries → Type 0
-EntriesTell r (Bad place) = first_place (entry_count r) (entry_fault r) ≡ just place
-EntriesTell r (Fine unmarked) = (first_place (entry_count r) (entry_fault r) ≡ none) × (place_in unmarked ≡ first_place (entry_count r) (unended r))
+-- What all tell: the first field without its mark, or the first fault.
+abbrev pub EntriesTell : List ℕ → Result (Option ℕ) ℕ → Type 0
+EntriesTell r (Ok unmarked) = (first_place (entry_count r) (entry_fault r) ≡ none) × (found unmarked ≡ first_place (entry_count r) (unended r))
+EntriesTell r (Err place) = first_place (entry_count r) (entry_fault r) ≡ just place
 
 -- the rows of the frame behind its leader
 unfoldable pub field_rows : List ℕ → List Row
@@ -42,7 +41,7 @@ field_rows r =
     ∷ row 17 (unmarked r (length r - 1) record_mark)
     ∷ []
 
--- A place in the record is refused by 17.
-abbrev pub found_at : Place → Option Refusal
-found_at (At place) = just (refusal 17 place)
-found_at Nowhere = none
+-- A fault is refused by 17, at its place.
+abbrev pub fault_in : Result (Unit {0}) ℕ → Place Refusal
+fault_in (Ok done) = none
+fault_in (Err place) = just (refusal 17 place)

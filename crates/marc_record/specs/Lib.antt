@@ -1,2 +1,5 @@
+pub mod Found
+pub mod Numbers
 pub mod Frames
-pub mod Spans
+pub mod Openings
+pub mod Directories

@@ -1,93 +1,58 @@
 // The first 100 field of a record, and the first subfield with a code in a field.
-ghost use Rattle.std.specs.Prelude.{◌≡◌, ◌+◌, ◌-◌, ◌≤◌, length, take, drop};
-ghost use Rattle.std.proofs.Math.Option.{none};
-ghost use Rattle.meaning.specs.Refusals.{first};
-ghost use Rattle.marc.specs.Frame.{frame_rows};
+ghost use Rattle.std.specs.Prelude.{◌≡◌, ℕ, ◌+◌, ◌/◌, ◌<◌, true, false, length, MatchOption};
+ghost use Rattle.std.specs.Option.{option_copied};
 ghost use Rattle.marc.specs.Subfields.{text_to, subfield};
-ghost use Rattle.marc.specs.Known.{same};
-ghost use Rattle.marc.specs.Heading.{tag100, field100};
-ghost use Rattle.marc_record.specs.Spans.{Inside, bytes_of};
+ghost use Rattle.marc.specs.Heading.{field100};
+ghost use Rattle.marc_record.specs.Found.{found};
+ghost use Rattle.marc_record.specs.Openings.{Opens};
+ghost use Rattle.marc_record.specs.Directories.{tagged};
 
-use crate::frame::{BASE_ADDRESS, ENTRY, FIELD_LENGTH, FIELD_START, FIRST_BASE, LEADER};
-use crate::number::{five, four};
+use crate::frame::{ENTRY, Frame};
 
 // The byte that opens a subfield, and how many indicators stand before the first.
 const SUBFIELD_MARK: u8 = 0x1f;
 
 const INDICATORS: usize = 2;
 
-// Some bytes of a list: where they begin, and the first behind them.
-#[derive(Clone, Copy)]
-pub enum Span {
-    Of(usize, usize),
-    Missing,
-}
-
-// Whether the entry at a byte has the tag 100.
-fn tag_is_100(bytes: &[u8], at: usize) -> bool
-    requires { at + 3 ≤ length bytes.now }
-    ensures { result ≡ same (take 3 (drop at bytes.now)) tag100 }
+// Which entry of a directory is the first with the tag 100.
+fn entry_100(directory: &[u8]) -> Option<usize>
+    ensures { MatchOption result ((k : ℕ) → k < length directory.now / 12 → tagged directory.now k ≡ false) (λ e. (e < length directory.now / 12) × (tagged directory.now e ≡ true) × ((k : ℕ) → k < e → tagged directory.now k ≡ false)) }
 {
-    if bytes[at] != b'1' {
-        return false;
-    }
-    if bytes[at + 1] != b'0' {
-        return false;
-    }
-    bytes[at + 2] == b'0'
+    directory
+        .chunks_exact(ENTRY)
+        .position(|entry| entry.starts_with(b"100"))
 }
 
 // The first field with the tag 100, without the mark that ends it.
-pub fn find_100(bytes: &[u8]) -> Span
-    requires { first (frame_rows bytes.now) ≡ none }
-    ensures { (bytes_of bytes.now result ≡ field100 bytes.now) × Inside bytes.now result }
+pub fn find_100<'a>(frame: Frame<'a>) -> Option<&'a [u8]>
+    ensures { found (option_copied result) ≡ field100 frame.entry.bytes.now }
 {
-    let base = five(bytes, BASE_ADDRESS);
-    let entries = (base - FIRST_BASE) / ENTRY;
-    let mut left = entries;
-    while left > 0 {
-        let at = LEADER + ENTRY * (entries - left);
-        if tag_is_100(bytes, at) {
-            let start = base + five(bytes, at + FIELD_START);
-            return Span::Of(start, start + (four(bytes, at + FIELD_LENGTH) - 1));
-        }
-        left -= 1;
-    }
-    Span::Missing
+    let e = entry_100(frame.directory())?;
+    Some(frame.field(e))
 }
 
-// Where a text ends that begins at `from`: at the next hex 1F or the field's end.
-fn text_end(field: &[u8], from: usize) -> usize
-    requires { from ≤ length field.now }
-    ensures { (take (result - from) (drop from field.now) ≡ text_to (drop from field.now)) × (from ≤ result) × (result ≤ length field.now) }
+// The text that some bytes begin with: up to the next hex 1F, or all.
+fn text_to_mark<'a>(bytes: &'a [u8]) -> &'a [u8]
+    ensures { result.now ≡ text_to bytes.entry.now }
 {
-    let n = field.len();
-    let mut i = from;
-    while i < n {
-        if field[i] == SUBFIELD_MARK {
-            return i;
-        }
-        i += 1;
-    }
-    n
+    let end = bytes.iter().position(|byte| *byte == SUBFIELD_MARK);
+    &bytes[..end.unwrap_or(bytes.len())]
+}
+
+// Where the first subfield with that code opens.
+fn opening(subfields: &[u8], code: u8) -> Option<usize>
+    ensures { MatchOption result ((k : ℕ) → k + 1 < length subfields.now → Opens code subfields.now k → ⊥) (λ at. (at + 1 < length subfields.now) × Opens code subfields.now at × ((k : ℕ) → k < at → Opens code subfields.now k → ⊥)) }
+{
+    subfields
+        .windows(2)
+        .position(|pair| pair[0] == SUBFIELD_MARK && pair[1] == code)
 }
 
 // The text of a field's first subfield with that code.
-pub fn find_text(field: &[u8], code: u8) -> Span
-    ensures { (bytes_of field.now result ≡ subfield code field.now) × Inside field.now result }
+pub fn find_text<'a>(field: &'a [u8], code: u8) -> Option<&'a [u8]>
+    ensures { found (option_copied result) ≡ subfield code field.entry.now }
 {
-    let n = field.len();
-    let mut i: usize = INDICATORS;
-    while i < n {
-        let next = i + 1;
-        if field[i] == SUBFIELD_MARK {
-            if next < n {
-                if field[next] == code {
-                    return Span::Of(i + 2, text_end(field, i + 2));
-                }
-            }
-        }
-        i = next;
-    }
-    Span::Missing
+    let subfields = field.get(INDICATORS..)?;
+    let at = opening(subfields, code)?;
+    Some(text_to_mark(&subfields[at + 2..]))
 }

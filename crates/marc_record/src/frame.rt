@@ -1,182 +1,141 @@
 // The tests of a record's frame, in their order: each says where the first fault is.
-ghost use Rattle.std.specs.Prelude.{◌≡◌, not, ◌+◌, ◌*◌, ◌≤◌, ◌<◌, length};
-ghost use Rattle.theory.specs.Least.{or_else};
-ghost use Rattle.meaning.specs.Refusals.{first};
-ghost use Rattle.marc.specs.Frame.{base_address, entry_at, field_mark, bad_base, unmarked, frame_rows};
-ghost use Rattle.table.specs.Places.{place_in};
-ghost use Rattle.marc_record.specs.Frames.{Directory, EntryTells, EntriesTell, field_rows, found_at};
-ghost use Rattle.marc_record.specs.declared.frame.Entries.TheVariants.{Fine};
+ghost use Rattle.std.specs.Prelude.{◌≡◌, ◌+◌, ◌-◌, ◌*◌, ◌≤◌, ◌<◌, take, drop, length, MatchResult};
+ghost use Rattle.std.proofs.Math.Option.{none, some as just};
+ghost use Rattle.meaning.specs.Refusals.{first, refusal};
+ghost use Rattle.marc.specs.Frame.{base_address, entry_count, entry_at, field_length, field_at, frame_rows};
+ghost use Rattle.marc_record.specs.Frames.{Directory, BaseBy, EntryTells, EntriesTell, fault_in, field_rows};
 
-use crate::number::{digits, five, four};
-use table::rules::Place;
+use crate::number::number;
 
-// How many bytes the leader has, and where in it the base address stands.
-pub const LEADER: usize = 24;
+// How many bytes the leader has, and in how many digits the record's length and the base address stand in it.
+const LEADER: usize = 24;
 
-pub const BASE_ADDRESS: usize = 12;
+const LEADER_DIGITS: usize = 5;
+
+const BASE_ADDRESS: usize = 12;
 
 // The base address of a record without fields: behind the leader and the directory's mark. Then there is only the record's mark.
-pub const FIRST_BASE: usize = LEADER + 1;
+const FIRST_BASE: usize = LEADER + 1;
 
 const SHORTEST: usize = FIRST_BASE + 1;
 
 // How many bytes an entry has, and where in it the field's length and start stand.
 pub const ENTRY: usize = 12;
 
-pub const FIELD_LENGTH: usize = 3;
+const FIELD_LENGTH: usize = 3;
 
-pub const FIELD_START: usize = 7;
+const FIELD_START: usize = 7;
 
 // The bytes that end a field or the directory, and the record.
 const FIELD_MARK: u8 = 0x1e;
 
 pub const RECORD_MARK: u8 = 0x1d;
 
-// What an entry tells of its field.
+// A record whose frame is whole, with its base address.
 #[derive(Clone, Copy)]
-enum Entry {
-    // its fault is at this byte
-    Bad(usize),
-    // the first byte behind the field
-    Ends(usize),
+pub struct Frame<'a> {
+    pub bytes: &'a [u8],
+    pub base: usize,
+    pub ghost whole: { first (frame_rows bytes.now) ≡ none },
+    pub ghost base_is: { base ≡ base_address bytes.now },
+    pub ghost entries_fit: { base ≡ 25 + 12 * entry_count bytes.now },
+    pub ghost inside: { base < length bytes.now },
 }
 
-// What all entries tell.
-#[derive(Clone, Copy)]
-enum Entries {
-    // the first fault is at this byte
-    Bad(usize),
-    // none has a fault; where the first field ends that does so without its mark
-    Fine(Place),
+impl<'a> Frame<'a> {
+    // The directory's entries, one behind the other.
+    pub fn directory(self) -> &'a [u8]
+        ensures { result.now ≡ take (12 * entry_count self.entry.bytes.now) (drop 24 self.entry.bytes.now) }
+    {
+        &self.bytes[LEADER..self.base - 1]
+    }
+
+    // The field of an entry, without the mark that ends it.
+    pub fn field(self, e: usize) -> &'a [u8]
+        requires { e < entry_count self.bytes.now }
+        ensures { result.now ≡ take (field_length self.entry.bytes.now e - 1) (drop (field_at self.entry.bytes.now e) self.entry.bytes.now) }
+    {
+        let at = LEADER + ENTRY * e;
+        let length = number(&self.bytes[at + FIELD_LENGTH..at + FIELD_START]).unwrap();
+        let start = self.base + number(&self.bytes[at + FIELD_START..at + ENTRY]).unwrap();
+        &self.bytes[start..start + length - 1]
+    }
 }
 
-// One entry: its numbers, and where its field ends.
-fn read_entry(bytes: &[u8], base: usize, e: usize) -> Entry
+// The base address, where it is in order.
+fn read_base(bytes: &[u8]) -> Option<usize>
+    requires { 26 ≤ length bytes.now }
+    ensures { BaseBy bytes.now result }
+{
+    let base = number(&bytes[BASE_ADDRESS..BASE_ADDRESS + LEADER_DIGITS])?;
+    if base < FIRST_BASE || (base - FIRST_BASE) % ENTRY != 0 || base >= bytes.len() {
+        return None;
+    }
+    Some(base)
+}
+
+// Where the field of an entry ends, or the byte of the entry's fault.
+fn read_entry(bytes: &[u8], base: usize, e: usize) -> Result<usize, usize>
     requires { (base ≡ base_address bytes.now) × (base ≤ 99999) × (entry_at e + 12 ≤ length bytes.now) }
     ensures { EntryTells bytes.now e result }
 {
     let at = LEADER + ENTRY * e;
-    if !digits(bytes, at + FIELD_LENGTH, 4) {
-        return Entry::Bad(at + FIELD_LENGTH);
-    }
-    let length = four(bytes, at + FIELD_LENGTH);
+    let length_at = at + FIELD_LENGTH;
+    let start_at = at + FIELD_START;
+    let length = number(&bytes[length_at..start_at]).ok_or(length_at)?;
     if length == 0 {
-        return Entry::Bad(at + FIELD_LENGTH);
+        return Err(length_at);
     }
-    if !digits(bytes, at + FIELD_START, 5) {
-        return Entry::Bad(at + FIELD_START);
-    }
-    let end = base + five(bytes, at + FIELD_START) + length;
+    let start = number(&bytes[start_at..at + ENTRY]).ok_or(start_at)?;
+    let end = base + start + length;
     if end >= bytes.len() {
-        return Entry::Bad(at + FIELD_START);
+        return Err(start_at);
     }
-    Entry::Ends(end)
+    Ok(end)
 }
 
-// The first place without a field's mark: one that was found before, or else this one.
-fn first_unmarked(found: Place, bytes: &[u8], last: usize) -> Place
-    requires { last < length bytes.now }
-    ensures { place_in result ≡ or_else (place_in found) (unmarked bytes.now last field_mark) }
-{
-    match found {
-        Place::At(place) => Place::At(place),
-        Place::Nowhere => {
-            if bytes[last] != FIELD_MARK {
-                return Place::At(last);
-            }
-            Place::Nowhere
-        }
-    }
-}
-
-// All entries, in one walk: a fault of an entry comes before any mark, so that a missing mark is only noted.
-fn read_entries(bytes: &[u8], base: usize, entries: usize) -> Entries
+// All entries, in one walk. A fault of an entry comes before any mark, so that the first field without its mark is only noted.
+fn read_entries(bytes: &[u8], base: usize, entries: usize) -> Result<Option<usize>, usize>
     requires { Directory bytes.now base entries }
     ensures { EntriesTell bytes.now result }
 {
-    let mut unmarked = Place::Nowhere;
-    let mut e: usize = 0;
-    while e < entries {
-        match read_entry(bytes, base, e) {
-            Entry::Bad(place) => {
-                return Entries::Bad(place);
-            }
-            Entry::Ends(end) => {
-                unmarked = first_unmarked(unmarked, bytes, end - 1);
-            }
+    let mut unmarked = None;
+    for e in 0..entries {
+        let last = read_entry(bytes, base, e)? - 1;
+        if bytes[last] != FIELD_MARK {
+            unmarked = unmarked.or(Some(last));
         }
-        e += 1;
     }
-    Entries::Fine(unmarked)
+    Ok(unmarked)
 }
 
-// Whether the base address is in order.
-fn fine_base(bytes: &[u8]) -> bool
-    requires { 26 ≤ length bytes.now }
-    ensures { bad_base bytes.now ≡ not result }
+// The first fault of the entries or of the marks: the directory's, a field's, the record's.
+fn check_fields(bytes: &[u8], base: usize, entries: usize) -> Result<(), usize>
+    requires { Directory bytes.now base entries }
+    ensures { fault_in result ≡ first (field_rows bytes.now) }
 {
-    if !digits(bytes, BASE_ADDRESS, 5) {
-        return false;
-    }
-    let base = five(bytes, BASE_ADDRESS);
-    if base < FIRST_BASE {
-        return false;
-    }
-    if (base - FIRST_BASE) % ENTRY != 0 {
-        return false;
-    }
-    base < bytes.len()
-}
-
-// The first mark that is missing: the directory's, a field's, the record's.
-fn check_marks(bytes: &[u8], base: usize, unmarked: Place) -> Place
-    requires { (base ≡ base_address bytes.now) × (0 < base) × (base < length bytes.now) × EntriesTell bytes.now (Fine unmarked) }
-    ensures { found_at result ≡ first (field_rows bytes.now) }
-{
+    let unmarked = read_entries(bytes, base, entries)?;
     if bytes[base - 1] != FIELD_MARK {
-        return Place::At(base - 1);
+        return Err(base - 1);
     }
-    match unmarked {
-        Place::At(place) => {
-            return Place::At(place);
-        }
-        Place::Nowhere => {}
+    if let Some(place) = unmarked {
+        return Err(place);
     }
     let last = bytes.len() - 1;
     if bytes[last] != RECORD_MARK {
-        return Place::At(last);
+        return Err(last);
     }
-    Place::Nowhere
+    Ok(())
 }
 
-// The first fault of the entries or the marks.
-fn check_fields(bytes: &[u8], base: usize, entries: usize) -> Place
-    requires { Directory bytes.now base entries }
-    ensures { found_at result ≡ first (field_rows bytes.now) }
+// The record, if its frame is whole, or the byte of the first fault.
+pub fn check_frame<'a>(bytes: &'a [u8]) -> Result<Frame<'a>, usize>
+    ensures { MatchResult result (λ frame. frame.bytes.now ≡ bytes.entry.now) (λ place. first (frame_rows bytes.entry.now) ≡ just (refusal 17 place)) }
 {
-    match read_entries(bytes, base, entries) {
-        Entries::Bad(place) => Place::At(place),
-        Entries::Fine(unmarked) => check_marks(bytes, base, unmarked),
+    if bytes.len() < SHORTEST || number(&bytes[..LEADER_DIGITS]) != Some(bytes.len()) {
+        return Err(0);
     }
-}
-
-// The first fault of the frame.
-pub fn check_frame(bytes: &[u8]) -> Place
-    ensures { found_at result ≡ first (frame_rows bytes.now) }
-{
-    let n = bytes.len();
-    if n < SHORTEST {
-        return Place::At(0);
-    }
-    if !digits(bytes, 0, 5) {
-        return Place::At(0);
-    }
-    if five(bytes, 0) != n {
-        return Place::At(0);
-    }
-    if !fine_base(bytes) {
-        return Place::At(BASE_ADDRESS);
-    }
-    let base = five(bytes, BASE_ADDRESS);
-    check_fields(bytes, base, (base - FIRST_BASE) / ENTRY)
+    let base = read_base(bytes).ok_or(BASE_ADDRESS)?;
+    check_fields(bytes, base, (base - FIRST_BASE) / ENTRY)?;
+    Ok(Frame { bytes, base })
 }

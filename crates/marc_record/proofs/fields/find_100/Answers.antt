@@ -1,76 +1,42 @@
--- The loop keeps that the first 100 field is the first among the entries left.
-use mathlib.Core.Path.{◌≡◌, sym, ap, ap₂, ◌∙◌}
-use mathlib.Core.Option.{some as just}
-use Prim.Native.Nat.{◌+◌, ◌-◌, ◌/◌}
-use native.Mathlib.Omega.{arith}
-use lib.ListN.{take, drop}
-use Rattle.marc.specs.Frame.{entry_count, field_length, field_at, fields_from, fields_in}
-use Rattle.marc.specs.Heading.{tag100, first_with, field100}
-use Rattle.marc.proofs.Frames.{framed}
-use Rattle.marc_record.proofs.Places.{base_digits, entry_digits}
-use Rattle.marc_record.proofs.Tags.{tag_here, tag_next, tag_none}
+-- The first entry with the tag is that of the first field with it.
+use Rattle.std.proofs.Common.{◌≡◌, sym, ap, ◌∙◌, true, false, Bool, ◌*◌, ◌/◌, ◌<◌, length, take, drop, arith}
+use Rattle.std.proofs.Math.Option.{some as just}
+use Rattle.std.proofs.lemmas.List.{length-take-le, length-drop}
+use Rattle.marc.specs.Frame.{entry_at, entry_count, fields_in}
+use Rattle.marc.specs.Known.{same}
+use Rattle.marc.specs.Heading.{tag100, field100}
+use Rattle.marc_record.specs.Directories.{tagged}
+use Rattle.marc_record.proofs.Tags.{tag_is, no_field, field_of}
 use Rattle.marc_record.proofs.fields.find_100.Goals as goal
+use Rattle.marc_record.proofs.fields.find_100.Goals.{After-directory}
 
-pub five-base-requires : goal.five-base-requires
-five-base-requires c = let f = framed _ c.requires in (omega (arith, f.base_inside, f.directory_fits), base_digits _ c.requires)
+-- how many entries the directory has
+count : (c : After-directory) → length c.directory.result.now / 12 ≡ entry_count c.args.frame.bytes.now
+count c =
+    let r = c.args.frame.bytes.now in
+    let n = 12 * entry_count r in
+    let long : length c.directory.result.now ≡ n = ap length c.directory.ensures ∙ length-take-le n (drop 24 r) (omega (arith, length-drop 24 r)) in
+    omega (arith, long)
 
-pub overflow_sub-entries : goal.overflow_sub-entries
-overflow_sub-entries c = let f = framed _ c.requires in omega (arith, c.five-base.ensures.0, f.directory_fits)
+-- an entry's tag, in the record and in the directory
+tag_of : (c : After-directory) (b : Bool) (k : _) → k < entry_count c.args.frame.bytes.now → tagged c.directory.result.now k ≡ b → same (take 3 (drop (entry_at k) c.args.frame.bytes.now)) tag100 ≡ b
+tag_of c b k l e =
+    let r = c.args.frame.bytes.now in
+    tag_is r (12 * entry_count r) k (omega (arith, l)) ∙ sym (ap (λ d. tagged d k) c.directory.ensures) ∙ e
 
-pub loop-left-init : goal.loop-left-init
+pub returns-in_err-e : goal.returns-in_err-e
 unfolding field100 fields_in
-loop-left-init c =
-    let r = c.args.bytes.now in
-    let n : (c.five-base.result - 25) / 12 ≡ entry_count r = ap (λ b. (b - 25) / 12) c.five-base.ensures.0 in
-    let f = framed r c.requires in
-    let z : (c.five-base.result - 25) / 12 - (c.five-base.result - 25) / 12 ≡ 0 = omega arith in
-    (c.five-base.ensures.0, n, omega arith, omega (arith, n, c.five-base.ensures.0, f.base_inside, f.directory_fits), ap₂ (λ e m. first_with tag100 (fields_from r e m)) z n)
-
-pub five-requires : goal.five-requires
-five-requires c =
-    let head = c.loop-left in
-    let e = (c.five-base.result - 25) / 12 - head.left in
-    (omega arith, (entry_digits c.args.bytes.now c.requires e (omega (arith, head.invariant.1))).1)
-
-pub four-requires : goal.four-requires
-four-requires c =
-    let head = c.loop-left in
-    let e = (c.five-base.result - 25) / 12 - head.left in
-    (omega arith, (entry_digits c.args.bytes.now c.requires e (omega (arith, head.invariant.1))).0)
-
-pub overflow_sub-result : goal.overflow_sub-result
-overflow_sub-result c =
-    let head = c.loop-left in
-    let e = (c.five-base.result - 25) / 12 - head.left in
-    let f = (framed c.args.bytes.now c.requires).each e (omega (arith, head.invariant.1)) in
-    omega (arith, c.four.ensures.0, f.not_empty)
-
-pub returns-then-tag_is_100 : goal.returns-then-tag_is_100
-returns-then-tag_is_100 c =
-    let head = c.loop-left in
-    let r = c.args.bytes.now in
-    let base = c.five-base.result in
-    let e = (base - 25) / 12 - head.left in
-    let f = (framed r c.requires).each e (omega (arith, head.invariant.1)) in
-    let from = c.five.result in
-    let long = c.four.result in
-    let at : base + from ≡ field_at r e = omega (arith, head.invariant.0, c.five.ensures.0) in
-    let many : base + from + (long - 1) - (base + from) ≡ field_length r e - 1 = omega (arith, c.four.ensures.0) in
-    let here = tag_here r e head.left (omega arith) (sym c.tag_is_100.ensures ∙ c.if-tag_is_100.true) in
-    (ap just (ap₂ (λ n s. take n (drop s r)) many at) ∙ sym here ∙ head.invariant.4, (omega arith, omega (arith, at, c.four.ensures.0, f.before_last, f.not_empty)))
-
-pub loop-left-preserved : goal.loop-left-preserved
-loop-left-preserved c =
-    let a = c.args in
-    let head = c.loop-left in
-    let i = c.loop-left.invariant in
-    let entries = (c.five-base.result - 25) / 12 in
-    let next : entries - (head.left - 1) ≡ entries - head.left + 1 = omega arith in
-    let goes = ap (λ e. first_with tag100 (fields_from a.bytes.now e (head.left - 1))) next in
-    (i.0, i.1, omega arith, i.3, goes ∙ sym (tag_next a.bytes.now (entries - head.left) head.left (omega arith) (sym c.tag_is_100.ensures ∙ c.if-tag_is_100.false)) ∙ i.4)
+returns-in_err-e c =
+    let r = c.args.frame.bytes.now in
+    let before = (goal.at.returns-in_err-e c).After-directory in
+    rw c.from_residual.ensures (sym (no_field r 0 (entry_count r) (λ k l m. tag_of before false k (omega arith) (c.in_err-e.ensures k (omega (arith, count before))))))
 
 pub returns : goal.returns
+unfolding field100 fields_in
 returns c =
-    let a = c.args in
-    let head = c.loop-left in
-    (sym (tag_none a.bytes.now _ head.left (omega arith)) ∙ head.invariant.4, tt)
+    let r = c.args.frame.bytes.now in
+    let before = (goal.at.returns c).After-directory in
+    let e = c.in_ok-e.e in
+    let found = c.in_ok-e.ensures in
+    let inside : e < entry_count r = omega (arith, count before, found.0) in
+    ap just c.field.ensures ∙ sym (field_of r 0 (entry_count r) e (omega arith) (omega arith) (tag_of before true e inside found.1) (λ k l m. tag_of before false k (omega arith) (found.2 k m)))

@@ -1,42 +1,34 @@
--- The loop keeps that the first subfield with the code is the first in what is left.
-use mathlib.Core.Path.{refl, sym, ap, ◌∙◌}
-use mathlib.Core.Option.{some as just}
-use native.Mathlib.Omega.{arith}
-use Rattle.marc.specs.Subfields.{subfield}
-use Rattle.marc_record.proofs.Texts.{opens, no_mark, no_code, other_code, none_left}
+-- Behind the indicators the first subfield with the code is the first that opens.
+use Rattle.std.proofs.Common.{◌≡◌, sym, ap, ◌∙◌, ◌+◌, ◌-◌, ◌≤◌, length, drop, inl, inr, arith}
+use Rattle.std.proofs.Math.Option.{some as just}
+use Rattle.std.proofs.lemmas.List.{drop_all, take_all, length-drop}
+use Rattle.marc.specs.Subfields.{text_to, text_of, subfield}
+use Rattle.marc_record.proofs.Texts.{text-none, text_opened}
 use Rattle.marc_record.proofs.fields.find_text.Goals as goal
+use Rattle.marc_record.proofs.fields.find_text.Goals.{In_ok-subfields}
 
-pub loop-i-init : goal.loop-i-init
+-- what stands behind the indicators
+behind : (c : goal.In_ok-subfields) → c.in_ok-subfields.subfields.now ≡ drop 2 c.args.field.now
+behind c =
+    let field = c.args.field.now in
+    c.in_ok-subfields.ensures.lookup.0.2 ∙ take_all (length field - 2) (drop 2 field) (omega (arith, length-drop 2 field))
+
+pub returns-in_err-subfields : goal.returns-in_err-subfields
+unfolding subfield text_of
+returns-in_err-subfields c =
+    let short : length c.args.field.now ≤ 2 = elim c.in_err-subfields.ensures.lookup.0 [ inl p ↦ omega arith | inr p ↦ omega arith ] in
+    rw (c.from_residual.ensures, drop_all 2 c.args.field.now short)
+
+pub returns-in_err-at : goal.returns-in_err-at
 unfolding subfield
-loop-i-init c = (refl, refl)
-
-pub returns-then-field-next : goal.returns-then-field-next
-returns-then-field-next c =
-    let a = c.args in
-    let head = c.loop-i in
-    let said = c.text_end.ensures in
-    (ap just said.0 ∙ sym (opens a.field.now a.code head.i (omega arith) (omega arith) (omega arith)) ∙ head.invariant.1, (said.1, said.2))
-
-pub loop-i-preserved-else-field-next : goal.loop-i-preserved-else-field-next
-loop-i-preserved-else-field-next c =
-    let a = c.args in
-    let head = c.loop-i in
-    (refl, sym (other_code a.field.now a.code head.i (omega arith) (λ e. omega arith)) ∙ head.invariant.1)
-
-pub loop-i-preserved-else-next-n : goal.loop-i-preserved-else-next-n
-loop-i-preserved-else-next-n c =
-    let a = c.args in
-    let head = c.loop-i in
-    (refl, sym (no_code a.field.now a.code head.i (omega arith) (omega arith)) ∙ head.invariant.1)
-
-pub loop-i-preserved : goal.loop-i-preserved
-loop-i-preserved c =
-    let a = c.args in
-    let head = c.loop-i in
-    (refl, sym (no_mark a.field.now a.code head.i (omega arith) (λ e. omega arith)) ∙ head.invariant.1)
+returns-in_err-at c =
+    rw (c.from_residual-in_err-at.ensures, ← behind (goal.at.returns-in_err-at c).In_ok-subfields) (sym (text-none c.args.code c.in_ok-subfields.subfields.now c.in_err-at.ensures))
 
 pub returns : goal.returns
+unfolding subfield
 returns c =
-    let a = c.args in
-    let head = c.loop-i in
-    (sym (none_left a.field.now a.code head.i (omega arith)) ∙ head.invariant.1, tt)
+    let parts = c.in_ok-subfields.subfields.now in
+    let at = c.in_ok-at.at + 2 in
+    let opened = text_opened c.args.code parts c.in_ok-at.at c.in_ok-at.ensures.0 c.in_ok-at.ensures.1 c.in_ok-at.ensures.2 in
+    let text = take_all (length parts - at) (drop at parts) (omega (arith, length-drop at parts)) in
+    rw (← behind (goal.at.returns c).In_ok-subfields) (ap just (c.text_to_mark.ensures ∙ ap text_to text) ∙ sym opened)

@@ -1,59 +1,62 @@
 -- Each early return knows one more of the four tests of an entry.
 use borrow.Author.Tests.{lt-ltb, le-ltb, eq-eqb, ne_eqb}
-use mathlib.Core.Path.{◌≡◌, sym, ◌∙◌}
-use mathlib.Core.Bool.{true, false}
-use mathlib.Core.Option.{none}
-use Prim.Native.Nat.{◌+◌}
-use native.Mathlib.Omega.{arith}
-use lib.ListN.{length}
-use Rattle.marc.specs.Frame.{digits_at, entry_at, field_length, field_end, entry_fault}
+use Rattle.std.proofs.Common.{◌≡◌, Some, None, ◌+◌, length, arith}
+use Rattle.std.proofs.Math.Option.{none}
+use Rattle.std.proofs.lemmas.Result.{err_from_is_err_and}
+use Rattle.marc.specs.Frame.{entry_at, field_length, field_end, entry_fault}
+use Rattle.marc_record.proofs.Numbers.{NumberAt, number_stands}
 use Rattle.marc_record.proofs.frame.read_entry.Goals as goal
-use Rattle.marc_record.proofs.frame.read_entry.Goals.{Else-not-digits, Else-not-digits-2}
+use Rattle.marc_record.proofs.frame.read_entry.Goals.{In_ok-length, In_ok-start}
 
--- the length, the start are numbers
-length-number : (c : goal.Else-not-digits) → let a = c.args in digits_at a.bytes.now (entry_at a.e + 3) 4 ≡ true
-length-number c = sym c.digits.ensures ∙ c.if-not-digits.false
+-- the length, the start were read
+length_read : (c : goal.In_ok-length) → NumberAt c.args.bytes.now (entry_at c.args.e + 3) 4 (Some c.in_ok-length.length)
+length_read c = number_stands c.args.bytes.now (entry_at c.args.e + 3) 4 _ (omega arith) (omega arith) (Some c.in_ok-length.length) (rw c.in_ok-length.ensures.ok_part at c.number.ensures)
 
-start-number : (c : goal.Else-not-digits-2) → let a = c.args in digits_at a.bytes.now (entry_at a.e + 7) 5 ≡ true
-start-number c = sym c.digits-2.ensures ∙ c.if-not-digits-2.false
+start_read : (c : goal.In_ok-start) → NumberAt c.args.bytes.now (entry_at c.args.e + 7) 5 (Some c.in_ok-start.start)
+start_read c = number_stands c.args.bytes.now (entry_at c.args.e + 7) 5 _ (omega arith) (omega arith) (Some c.in_ok-start.start) (rw c.in_ok-start.ensures.ok_part at c.number-2.ensures)
 
-pub returns-then-not-digits : goal.returns-then-not-digits
-returns-then-not-digits c =
-    let a = c.args in
-    let d : digits_at a.bytes.now (entry_at a.e + 3) 4 ≡ false = sym c.digits.ensures ∙ c.if-not-digits.true in
-    rw d
-
-pub four-length-requires : goal.four-length-requires
-four-length-requires c = (omega arith, length-number (goal.at.four-length-requires c).Else-not-digits)
+pub returns-in_err-length : goal.returns-in_err-length
+returns-in_err-length c =
+    let r = c.args.bytes.now in
+    let at = entry_at c.args.e + 3 in
+    let missed = number_stands r at 4 _ (omega arith) (omega arith) None (rw c.in_err-length.ensures.ok_part at c.number.ensures) in
+    let told = rw c.in_err-length.ensures.ok_part at c.in_err-length.ensures.value in
+    let place : c.in_err-length.field-0.0 ≡ at = cc in
+    let p = err_from_is_err_and c.from_residual.result c.from_residual.ensures.1 in
+    rw (p.1, p.2, place, missed)
 
 pub returns-then-length-eq0 : goal.returns-then-length-eq0
 returns-then-length-eq0 c =
-    let a = c.args in
-    let v = c.four-length.ensures.0 in
-    rw (length-number (goal.at.returns-then-length-eq0 c).Else-not-digits, eq-eqb (field_length a.bytes.now a.e) 0 (omega arith))
+    let r = c.args.bytes.now in
+    let e = c.args.e in
+    let long = length_read (goal.at.returns-then-length-eq0 c).In_ok-length in
+    rw (long.0, eq-eqb (field_length r e) 0 (omega arith))
 
-pub returns-then-not-digits-2 : goal.returns-then-not-digits-2
-returns-then-not-digits-2 c =
-    let a = c.args in
-    let v = c.four-length.ensures.0 in
-    let d : digits_at a.bytes.now (entry_at a.e + 7) 5 ≡ false = sym c.digits-2.ensures ∙ c.if-not-digits-2.true in
-    rw (length-number (goal.at.returns-then-not-digits-2 c).Else-not-digits, ne_eqb (field_length a.bytes.now a.e) 0 (λ e. omega arith), d)
-
-pub five-requires : goal.five-requires
-five-requires c = (omega arith, start-number (goal.at.five-requires c).Else-not-digits-2)
+pub returns-in_err-start : goal.returns-in_err-start
+returns-in_err-start c =
+    let r = c.args.bytes.now in
+    let e = c.args.e in
+    let at = entry_at e + 7 in
+    let long = length_read (goal.at.returns-in_err-start c).In_ok-length in
+    let missed = number_stands r at 5 _ (omega arith) (omega arith) None (rw c.in_err-start.ensures.ok_part at c.number-2.ensures) in
+    let told = rw c.in_err-start.ensures.ok_part at c.in_err-start.ensures.value in
+    let place : c.in_err-start.field-0.0 ≡ at = cc in
+    let p = err_from_is_err_and c.from_residual-in_err-start.result c.from_residual-in_err-start.ensures.1 in
+    rw (p.1, p.2, place, long.0, ne_eqb (field_length r e) 0 (λ e. omega arith), missed)
 
 pub returns-then-end-bytes : goal.returns-then-end-bytes
 returns-then-end-bytes c =
-    let a = c.args in
-    let v = c.four-length.ensures.0 in
-    let w = c.five.ensures.0 in
-    rw (length-number (goal.at.returns-then-end-bytes c).Else-not-digits, ne_eqb (field_length a.bytes.now a.e) 0 (λ e. omega arith), start-number (goal.at.returns-then-end-bytes c).Else-not-digits-2, le-ltb (field_end a.bytes.now a.e) (length a.bytes.now) (omega arith))
+    let r = c.args.bytes.now in
+    let e = c.args.e in
+    let long = length_read (goal.at.returns-then-end-bytes c).In_ok-length in
+    let start = start_read (goal.at.returns-then-end-bytes c).In_ok-start in
+    rw (long.0, ne_eqb (field_length r e) 0 (λ e. omega arith), start.0, le-ltb (field_end r e) (length r) (omega arith))
 
 pub returns : goal.returns
 returns c =
-    let a = c.args in
-    let v = c.four-length.ensures.0 in
-    let w = c.five.ensures.0 in
-    let fine : entry_fault a.bytes.now a.e ≡ none =
-    rw (length-number (goal.at.returns c).Else-not-digits, ne_eqb (field_length a.bytes.now a.e) 0 (λ e. omega arith), start-number (goal.at.returns c).Else-not-digits-2, lt-ltb (field_end a.bytes.now a.e) (length a.bytes.now) (omega arith)) in
+    let r = c.args.bytes.now in
+    let e = c.args.e in
+    let long = length_read (goal.at.returns c).In_ok-length in
+    let start = start_read (goal.at.returns c).In_ok-start in
+    let fine : entry_fault r e ≡ none = rw (long.0, ne_eqb (field_length r e) 0 (λ e. omega arith), start.0, lt-ltb (field_end r e) (length r) (omega arith)) in
     (fine, omega arith, omega arith, omega arith)
