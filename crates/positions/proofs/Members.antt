@@ -36,13 +36,9 @@ highest_fewer f m (suc n) l = go (dec_lt n m) (highest_fewer f m n)
     go (no h) before = omega (arith, before (omega arith))
 
 module _ (b : ℕ → Bool) (f : ℕ → ℕ) where
-  -- LAW: a member brings its own
-  pub fewest_in : (m : ℕ) → b m ≡ true → fewest b f (m + 1) ≡ min (fewest b f m) (f m)
-  fewest_in m e = rw (add-one m, e) (omega arith)
+  -- LAW: the next member brings its own
+  pub fewest_next : (m k : ℕ) → m ≤ k → b k ≡ true → ((s : ℕ) → m ≤ s → s < k → b s ≡ false) → fewest b f (k + 1) ≡ min (fewest b f m) (f k)
+  fewest_next m k l e none = let before = (skipped b f m k l none).0 in rw (add-one k, e) (omega arith)
 
-  pub most_in : (m : ℕ) → b m ≡ true → most b f (m + 1) ≡ max (most b f m) (f m)
-  most_in m e = rw (add-one m, e) (omega arith)
-
-  -- LAW: from one member to the next, or to the end n where there is none before it
-  pub passed_to : (m r n : ℕ) → m ≤ r → m ≤ n → ((s : ℕ) → m ≤ s → s < r → b s ≡ false) → fewest b f (min r n) ≡ fewest b f m
-  passed_to m r n l k none = (skipped b f m (min r n) (omega arith) (λ s a h. none s a (omega arith))).0
+  pub most_next : (m k : ℕ) → m ≤ k → b k ≡ true → ((s : ℕ) → m ≤ s → s < k → b s ≡ false) → most b f (k + 1) ≡ max (most b f m) (f k)
+  most_next m k l e none = let before = (skipped b f m k l none).1 in rw (add-one k, e) (omega arith)

@@ -6,7 +6,7 @@ use mathlib.Core.Bool.{Bool, true, false, ◌&&◌, cond}
 use Prim.Native.Nat.{ℕ, zero, suc, ◌+◌, ◌≤◌, ◌<◌, min, max}
 use native.Mathlib.Decide.{dec_le, ℕ_discrete}
 use native.Mathlib.Omega.{arith}
-use borrow.Author.Tests.{lt-ltb, le-ltb, le-leb, lt-leb, leb-true, eq-eqb, ne_eqb}
+use borrow.Author.Tests.{lt-ltb, le-leb, lt-leb, leb-true, eq-eqb, ne_eqb}
 use lib.Dec.{ltb, leb, eqb}
 use Rattle.theory.specs.Table.{Table, Lawful}
 use Rattle.theory.specs.Least.{lowest, highest}
@@ -15,10 +15,10 @@ use Rattle.meaning.specs.Buffers.{member}
 use Rattle.sets.specs.Words.{NoneBetween}
 use Rattle.near.specs.Near.{is_near}
 use Rattle.wide.specs.Shared.{shared_by_lem}
-use Rattle.wide.specs.declared.Degrees.{Degrees}
+use Rattle.refusal.specs.declared.Degrees.{Degrees}
 use Rattle.positions.specs.Position.{in_shared, lowest_shared, highest_shared, floor_of, SharedIs, Rated}
 use Rattle.positions.specs.Looked.{RatedBy, RatedAt}
-use Rattle.positions.proofs.Members.{lowest-same, highest-same, lowest_fewer, highest_fewer, fewest_in, most_in}
+use Rattle.positions.proofs.Members.{lowest-same, highest-same, lowest_fewer, highest_fewer, fewest_next, most_next}
 use Rattle.positions.proofs.Sharing.{cut_floor, floor_shared}
 
 -- no degree is above the top
@@ -37,25 +37,22 @@ module _ (T : Table) (faced : List ℕ) where
 
   -- of the words' symbols those below m are gone through, with what the positions before gave as the lowest
   pub record RatedTo (set : List ℕ) (before m low best : ℕ) : Type 0 where
+    pub within : m ≤ T.size
     pub lows : low ≡ min before (fewest (member set) shares m)
     pub bests : best ≡ most (member set) shares m
 
   pub rated_none : (set : List ℕ) (before : ℕ) → before ≤ 1000 → RatedTo set before 0 before 0
-  rated_none set before top = record { lows = omega arith; bests = refl }
+  rated_none set before top = record { within = omega arith; lows = omega arith; bests = refl }
 
   module _ {set : List ℕ} {before m low best : ℕ} (r : RatedTo set before m low best) where
-    -- LAW: what lies between brings nothing
-    pub rated_out : {m' : ℕ} → m ≤ m' → NoneBetween set m m' → RatedTo set before m' low best
-    rated_out {m'} l none =
-        let same = skipped (member set) shares m m' l none in
-        record { lows = r.lows ∙ ap (min before) (inv same.0); bests = r.bests ∙ inv same.1 }
-
-    -- LAW: one more
-    pub rated_in : {d low' best' : ℕ} → member set m ≡ true → d ≡ shares m → low' ≡ min low d → best' ≡ max best d → RatedTo set before (m + 1) low' best'
-    rated_in is e l b =
+    -- LAW: with k, the next one
+    pub rated_next : {k d low' best' : ℕ} → m ≤ k → k < T.size → member set k ≡ true → NoneBetween set m k → d ≡ shares k → low' ≡ min low d → best' ≡ max best d
+        → RatedTo set before (k + 1) low' best'
+    rated_next {k} up l is none e lower higher =
         record {
-          lows = omega (arith, r.lows, fewest_in (member set) shares m is);
-          bests = omega (arith, r.bests, most_in (member set) shares m is);
+          within = omega arith;
+          lows = omega (arith, r.lows, fewest_next (member set) shares m k up is none);
+          bests = omega (arith, r.bests, most_next (member set) shares m k up is none);
         }
 
     module _ (L : Lawful T) {cut : ℕ} (top : cut ≤ 1000) {floor : ℕ} (is : SharedIs T cut faced set floor) (high : ℕ) where
@@ -66,19 +63,19 @@ module _ (T : Table) (faced : List ℕ) where
       highest_is = highest-same T.size _ _ (λ s l. rw (is.set_is s))
 
       -- LAW: all are gone through
-      pub rated_all : T.size ≤ m → Rated T cut faced before high low (min high best)
-      rated_all l =
-          let same = skipped (member set) shares T.size m l (λ s a _. is.set_is s ∙ rw (le-ltb s T.size a)) in
+      pub rated_all : NoneBetween set m T.size → Rated T cut faced before high low (min high best)
+      rated_all none =
+          let same = skipped (member set) shares m T.size r.within none in
           record {
             lowest_is = omega (arith, r.lows, same.0, lowest_is);
             highest_is = omega (arith, r.bests, same.1, highest_is);
           }
 
       -- LAW: the rest can change neither
-      pub rated_early : m ≤ T.size → high ≤ best → low ≤ floor → Rated T cut faced before high low high
-      rated_early l reached bottom =
-          let lower = lowest_fewer (λ s. cond (member set s) (shares s) 1000) m T.size l in
-          let higher = highest_fewer (λ s. cond (member set s) (shares s) 0) m T.size l in
+      pub rated_early : high ≤ best → low ≤ floor → Rated T cut faced before high low high
+      rated_early reached bottom =
+          let lower = lowest_fewer (λ s. cond (member set s) (shares s) 1000) m T.size r.within in
+          let higher = highest_fewer (λ s. cond (member set s) (shares s) 0) m T.size r.within in
           record {
             lowest_is = omega (arith, r.lows, lower, lowest_is, floor_low, is.floor_is);
             highest_is = omega (arith, r.bests, higher, highest_is);

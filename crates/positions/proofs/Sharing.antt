@@ -3,23 +3,25 @@
 use mathlib.Core.Path.{◌≡◌, refl, sym as inv, ap, ap₂, ◌∙◌}
 use mathlib.Core.List.{List}
 use mathlib.Core.Bool.{Bool, true, false, ◌&&◌, cond, false≢true}
-use Prim.Native.Nat.{ℕ, ◌+◌, ◌≤◌, ◌<◌, min}
-use native.Mathlib.Decide.{dec_lt, dec_le, ℕ_discrete}
+use Prim.Native.Nat.{ℕ, ◌+◌, ◌/◌, ◌%◌, ◌^◌, ◌≤◌, ◌<◌, min}
+use native.Mathlib.Decide.{dec_lt, dec_le}
 use native.Mathlib.Omega.{arith}
 use borrow.Author.Tests.{lt-ltb, le-ltb, le-leb, lt-leb, leb-true, eq-eqb, ne_eqb}
 use lib.Dec.{ltb, leb, eqb}
-use lib.ListN.{length}
+use lib.ListN.{length, length-replicate}
 use Rattle.theory.specs.Table.{Table, Lawful}
 use Rattle.theory.specs.Least.{lowest}
 use Rattle.theory.proofs.Lemmas.{fewest, lowest_le, lowest_top, le_lowest, and_right, and_true, skipped}
-use Rattle.meaning.specs.Limits.{set_words_lem, set_room}
+use Rattle.meaning.specs.Limits.{word_bits, set_words_lem, set_room}
 use Rattle.meaning.specs.Buffers.{member}
-use Rattle.sets.specs.Words.{NoneBetween, NextBelow}
-use Rattle.sets.proofs.Laws.{none_past}
-use Rattle.near.specs.Near.{in_row, is_near, NearSet}
+use Rattle.sets.specs.Words.{NoneBetween, one_bit}
+use Rattle.sets.proofs.Laws.{none_past, member_one, member-zeros}
+use Rattle.meaning.specs.Calls.{zeros}
+use Rattle.std.proofs.lemmas.List.{set_past}
+use Rattle.near.specs.Near.{in_row, Kept, is_near, NearSet}
 use Rattle.wide.specs.Shared.{shared_by_lem}
-use Rattle.positions.specs.Position.{floor_of, SharedIs}
-use Rattle.positions.proofs.Members.{fewest_in}
+use Rattle.positions.specs.Position.{KeptOf, floor_of, SharedIs}
+use Rattle.positions.proofs.Members.{fewest_next}
 
 -- LAW: the words of the near set of h are the symbols near to h
 pub near_members : {T : Table} {cut : ℕ} {near : List ℕ} {h : ℕ} → T.size ≤ set_room → NearSet T cut near h → (words : List ℕ) → length words ≡ set_words_lem
@@ -30,13 +32,17 @@ near_members {T} {cut} {near} {h} small known words many same s = go (dec_lt s s
     go (yes l) = same s l ∙ known.has s l
     go (no l) = rw (le-ltb s T.size (omega arith)) (none_past set_words_lem words many s (omega arith))
 
--- LAW: the first member of a set that has one
-pub first_met : {n : ℕ} {faced : List ℕ} {end r : ℕ} → NextBelow n faced 0 end r → (h : ℕ) → member faced h ≡ true → h < end → r < end
-first_met {faced = faced} {end = end} {r = r} found h is l = go (dec_lt r end)
+-- LAW: where a symbol stands alone its near set is there, and it tells what is a member
+pub one_kept : {near : List ℕ} {symbols : ℕ} (symbol : ℕ) → KeptOf near symbols (one_bit set_words_lem symbol)
+    → Kept near symbol × ((h : ℕ) → member (one_bit set_words_lem symbol) h ≡ eqb h symbol)
+one_kept {near} symbol known = go (dec_lt symbol set_room)
   where
-    go : Dec (r < end) → r < end
-    go (yes m) = m
-    go (no m) = absurd (false≢true (inv (found.none h (omega arith) (omega arith)) ∙ is))
+    go : Dec (symbol < set_room) → Kept near symbol × ((h : ℕ) → member (one_bit set_words_lem symbol) h ≡ eqb h symbol)
+    go (yes l) = let one = member_one set_words_lem symbol l in (known.kept symbol (one symbol ∙ eq-eqb symbol symbol refl), one)
+    go (no l) =
+        let none = set_past (zeros set_words_lem) (symbol / word_bits) (2 ^ (symbol % word_bits)) (omega (arith, length-replicate {A = ℕ} set_words_lem 0)) in
+        let some = known.some in
+        absurd (false≢true (inv (ap (λ (ws : List ℕ). member ws some.0) none ∙ member-zeros set_words_lem some.0) ∙ some.1))
 
 -- a number reaches the lesser of two exactly if it reaches both
 leb_min : (c a b : ℕ) → leb c (min a b) ≡ (leb c a && leb c b)
@@ -59,14 +65,6 @@ module _ (T : Table) (cut : ℕ) (faced : List ℕ) where
     pub set_is : (s : ℕ) → member set s ≡ (ltb s T.size && leb cut (fewest (member faced) (T.deg s) m))
     pub floor_is : floor ≡ fewest (member faced) lowest_near m
 
-  -- LAW: what lies between brings nothing
-  pub met_out : {m m' floor : ℕ} {set : List ℕ} → m ≤ m' → NoneBetween faced m m' → MetTo m set floor → MetTo m' set floor
-  met_out {m} {m'} l none h =
-      record {
-        set_is = λ s. h.set_is s ∙ ap (λ (d : ℕ). ltb s T.size && leb cut d) (inv (skipped (member faced) (T.deg s) m m' l none).0);
-        floor_is = h.floor_is ∙ inv (skipped (member faced) lowest_near m m' l none).0;
-      }
-
   module _ (L : Lawful T) where
     -- LAW: the first
     pub met_first : {h floor : ℕ} {set : List ℕ} → NoneBetween faced 0 h → member faced h ≡ true → ((s : ℕ) → member set s ≡ is_near T cut h s)
@@ -78,20 +76,20 @@ module _ (T : Table) (cut : ℕ) (faced : List ℕ) where
         }
       where
         alone : (f : ℕ → ℕ) → f h ≤ 1000 → f h ≡ fewest (member faced) f (h + 1)
-        alone f top = omega (arith, fewest_in (member faced) f h is, (skipped (member faced) f 0 h (omega arith) none).0)
+        alone f top = omega (arith, fewest_next (member faced) f 0 h (omega arith) is none)
 
     -- LAW: one more
-    pub met_in : {h floor floor' low : ℕ} {set both : List ℕ} (other : List ℕ) → member faced h ≡ true → ((s : ℕ) → member other s ≡ is_near T cut h s)
-        → ((s : ℕ) → member both s ≡ (member set s && member other s)) → low ≡ lowest_near h → floor' ≡ min floor low → MetTo h set floor
-        → MetTo (h + 1) both floor'
-    met_in {h} {floor} {floor'} {low} {set} {both} other is near meet lows floors met =
+    pub met_next : {m h floor floor' low : ℕ} {set both : List ℕ} (other : List ℕ) → m ≤ h → member faced h ≡ true → NoneBetween faced m h
+        → ((s : ℕ) → member other s ≡ is_near T cut h s) → ((s : ℕ) → member both s ≡ (member set s && member other s)) → low ≡ lowest_near h → floor' ≡ min floor low
+        → MetTo m set floor → MetTo (h + 1) both floor'
+    met_next {m} {h} {floor} {floor'} {low} {set} {both} other up is none near meet lows floors met =
         record {
           set_is = λ s.
               meet s
               ∙ ap₂ ◌&&◌ (met.set_is s) (near s)
-              ∙ once (ltb s T.size) (leb cut (fewest (member faced) (T.deg s) h)) (leb cut (T.deg s h))
-              ∙ ap (λ (b : Bool). ltb s T.size && b) (inv (leb_min cut (fewest (member faced) (T.deg s) h) (T.deg s h)) ∙ ap (leb cut) (inv (fewest_in (member faced) (T.deg s) h is)));
-          floor_is = omega (arith, met.floor_is, lows, floors, fewest_in (member faced) lowest_near h is);
+              ∙ once (ltb s T.size) (leb cut (fewest (member faced) (T.deg s) m)) (leb cut (T.deg s h))
+              ∙ ap (λ (b : Bool). ltb s T.size && b) (inv (leb_min cut (fewest (member faced) (T.deg s) m) (T.deg s h)) ∙ ap (leb cut) (inv (fewest_next (member faced) (T.deg s) m h up is none)));
+          floor_is = omega (arith, met.floor_is, lows, floors, fewest_next (member faced) lowest_near m h up is none);
         }
       where
         once : (a b c : Bool) → ((a && b) && (a && c)) ≡ (a && (b && c))
@@ -99,33 +97,21 @@ module _ (T : Table) (cut : ℕ) (faced : List ℕ) where
         once false b c = refl
 
   -- LAW: at the end all are met
-  pub met_all : {m floor : ℕ} {set : List ℕ} → T.size ≤ m → ((h : ℕ) → member faced h ≡ true → h < T.size) → MetTo m set floor → SharedIs T cut faced set floor
-  met_all {m} l symbols met =
+  pub met_all : {m floor : ℕ} {set : List ℕ} → m ≤ T.size → NoneBetween faced m T.size → MetTo m set floor → SharedIs T cut faced set floor
+  met_all {m} l none met =
       record {
-        set_is = λ s. met.set_is s ∙ ap (λ (d : ℕ). ltb s T.size && leb cut d) (skipped (member faced) (T.deg s) T.size m l none).0;
-        floor_is = met.floor_is ∙ (skipped (member faced) lowest_near T.size m l none).0;
+        set_is = λ s. met.set_is s ∙ ap (λ (d : ℕ). ltb s T.size && leb cut d) (inv (skipped (member faced) (T.deg s) m T.size l none).0);
+        floor_is = met.floor_is ∙ inv (skipped (member faced) lowest_near m T.size l none).0;
       }
-    where
-      none : (h : ℕ) → T.size ≤ h → h < m → member faced h ≡ false
-      none h a _ = go (member faced h) refl
-        where
-          go : (b : Bool) → member faced h ≡ b → b ≡ false
-          go false e = refl
-          go true e = absurd (omega (arith, symbols h e))
 
   -- LAW: one alone
   pub met_alone : {h floor : ℕ} {set : List ℕ} → Lawful T → h < T.size → ((k : ℕ) → member faced k ≡ eqb k h) → ((s : ℕ) → member set s ≡ is_near T cut h s)
       → floor ≡ lowest_near h → SharedIs T cut faced set floor
   met_alone {h} L inside only near low =
-      met_all {m = T.size} (omega arith) (λ k e. at_most k (ℕ_discrete k h) e)
-      (met_out {m = h + 1} (omega arith) (λ k l m. other k (λ e. omega arith)) (met_first L (λ k l m. other k (λ e. omega arith)) (only h ∙ eq-eqb h h refl) near low))
+      met_all {m = h + 1} (omega arith) (λ k l m. other k (λ e. omega arith)) (met_first L (λ k l m. other k (λ e. omega arith)) (only h ∙ eq-eqb h h refl) near low)
     where
       other : (k : ℕ) → (k ≡ h → ⊥) → member faced k ≡ false
       other k d = only k ∙ ne_eqb k h d
-
-      at_most : (k : ℕ) → Dec (k ≡ h) → member faced k ≡ true → k < T.size
-      at_most k (yes e) is = omega arith
-      at_most k (no d) is = absurd (false≢true (inv (other k d) ∙ is))
 
 -- ---- the floor
 

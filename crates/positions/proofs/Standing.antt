@@ -7,7 +7,7 @@ use Prim.Native.Nat.{ℕ, zero, suc, ◌+◌, ◌≤◌, ◌<◌}
 use native.Mathlib.Decide.{dec_lt, ℕ_discrete}
 use native.Mathlib.Nat.{not-suc-le-zero}
 use native.Mathlib.Omega.{arith}
-use borrow.Author.Tests.{lt-leb, eq-eqb, ne_eqb}
+use borrow.Author.Tests.{lt-leb, eq-eqb, ne_eqb, eqb-true}
 use lib.Dec.{ltb, leb, eqb}
 use lib.ListN.{length, get_or}
 use Rattle.theory.specs.Tree.{Term, node, ∅}
@@ -17,7 +17,10 @@ use Rattle.theory.specs.Match.{at, shared, in_set, lowest_at_lem, highest_at}
 use Rattle.theory.specs.Stands.{StandsAt, start_of, size_of, Gathered}
 use Rattle.theory.proofs.Lemmas.{least_top, all_of_least, least_of_all, all_get_d, lowest_le, lowest_top, le_lowest}
 use Rattle.theory.proofs.Gathered.{at_node, at_past}
+use Rattle.meaning.specs.Limits.{set_words_lem, set_room}
 use Rattle.meaning.specs.Buffers.{member}
+use Rattle.sets.specs.Words.{one_bit}
+use Rattle.sets.proofs.Laws.{member_one}
 use Rattle.wide.specs.Shared.{shared_by_lem}
 use Rattle.positions.specs.Position.{NearOf, StandAt, EndsBefore, in_shared, lowest_shared, highest_shared}
 use Rattle.positions.proofs.Members.{lowest-same, highest-same}
@@ -90,15 +93,15 @@ module _ (heading notes : List ℕ) (k : ℕ) where
           (old.0, omega (arith, old.1), old.2)
 
   -- LAW: one symbol, the first subterm's, stands in all of them
-  pub stand_alone : (n first : ℕ) (symbols : List ℕ) → 0 < n → first ≡ get_or heading (start_of notes 0 + k) 0
+  pub stand_alone : (n first : ℕ) {symbols : List ℕ} → 0 < n → first < set_room → first ≡ get_or heading (start_of notes 0 + k) 0
       → ((o : ℕ) → o < n → get_or heading (start_of notes o + k) 0 ≡ first) → StandAt heading notes k n symbols
-      → (h : ℕ) → member symbols h ≡ eqb h first
-  stand_alone n first symbols some is same s h = go (ℕ_discrete h first) (member symbols h) refl
-    where
-      go : Dec (h ≡ first) → (b : Bool) → member symbols h ≡ b → b ≡ eqb h first
-      go (yes e) b m = inv m ∙ ap (member symbols) (e ∙ is) ∙ s.each 0 some ∙ inv (eq-eqb h first e)
-      go (no d) true m = let o = s.only h m in absurd (d (inv o.2 ∙ same o.0 o.1))
-      go (no d) false m = inv (ne_eqb h first d)
+      → StandAt heading notes k n (one_bit set_words_lem first)
+  stand_alone n first some small is same s =
+      record {
+        reach = s.reach;
+        each = λ o l. member_one set_words_lem first small (get_or heading (start_of notes o + k) 0) ∙ eq-eqb _ _ (same o l);
+        only = λ h e. (0, some, inv (eqb-true h first (inv (member_one set_words_lem first small h) ∙ e) ∙ is));
+      }
 
 -- ---- what the subterms share there
 

@@ -1,23 +1,37 @@
 -- What the functions on one position come to.
-use Rattle.std.specs.Prelude.{◌≡◌, List, true, false, ℕ, ◌+◌, ◌≤◌, min, eqb, get_or}
+use Rattle.std.specs.Prelude.{◌≡◌, ⊤, List, Option, MatchOption, IfSome, ℕ, ◌+◌, ◌≤◌, ◌<◌, min, get_or}
 use Rattle.theory.specs.Table.{Table, Lawful}
 use Rattle.theory.specs.Stands.{start_of}
-use Rattle.meaning.specs.Buffers.{member}
+use Rattle.meaning.specs.Limits.{set_words_lem}
+use Rattle.refusal.specs.declared.Degrees.{Degrees}
+use Rattle.sets.specs.Words.{one_bit}
 use Rattle.wide.specs.Shared.{shared_by_lem, lowest_from, highest_from}
-use Rattle.wide.specs.declared.Degrees.{Degrees}
 use Rattle.positions.specs.Position.{note_count, StandAt, EndsBefore, SharedIs, Rated}
 use Rattle.positions.specs.declared.faced.Faced.{Faced}
+use Rattle.positions.specs.declared.faced.Faced.TheVariants.{Alone, Several}
 
--- where one symbol is said to stand alone it is the first subterm's
-abbrev pub Alone : Faced → Type 0
-Alone faced = faced.alone ≡ true → (h : ℕ) → member faced.symbols.words h ≡ eqb h faced.first
+-- the symbols that stand there, as the words of a set
+abbrev pub words_of : Faced → List ℕ
+words_of (Alone symbol) = one_bit set_words_lem symbol
+words_of (Several set) = set.words
 
--- what stands at position k of all subterms
-pub record LookedAt (heading notes : List ℕ) (k : ℕ) (r : Faced) : Type 0 where
-  pub whole : r.everywhere ≡ true → StandAt heading notes k (note_count notes) r.symbols.words
-  pub short : r.everywhere ≡ false → EndsBefore notes k (note_count notes)
-  pub first_is : r.first ≡ get_or heading (start_of notes 0 + k) 0
-  pub alone : r.everywhere ≡ true → Alone r
+-- a symbol that stands there alone is the first subterm's
+abbrev pub AloneIs : ℕ → Faced → Type 0
+AloneIs first (Alone symbol) = symbol ≡ first
+AloneIs first (Several set) = ⊤
+
+-- what stands at position k of all subterms, if all have a symbol there
+pub record LookedAt (heading notes : List ℕ) (k : ℕ) (r : Option Faced) : Type 0 where
+  pub stand : MatchOption r (EndsBefore notes k (note_count notes)) (λ faced. StandAt heading notes k (note_count notes) (words_of faced))
+  pub alone_is : IfSome r (AloneIs (get_or heading (start_of notes 0 + k) 0))
+
+-- a symbol that stands there alone is one of so many
+abbrev pub IsBelow : ℕ → Faced → Type 0
+IsBelow size (Alone symbol) = symbol < size
+IsBelow size (Several set) = ⊤
+
+abbrev pub AloneBelow : ℕ → Option Faced → Type 0
+AloneBelow size r = IfSome r (IsBelow size)
 
 module _ (T : Table) (faced : List ℕ) where
   -- the degrees here of those that share the floor at least, with those before
@@ -32,6 +46,5 @@ module _ (T : Table) (faced : List ℕ) where
     pub rated : (cut : ℕ) → Lawful T → cut ≤ 1000 → SharedIs T cut faced set floor → Rated T cut faced before.lowest before.highest r.lowest r.highest
 
 -- the degrees at a position, with those before: where a subterm ends before it no symbol may stand there, and the highest degree is 0
-pub record DegreesAt (T : Table) (faced : Faced) (set : List ℕ) (floor : ℕ) (before r : Degrees) : Type 0 where
-  pub whole : faced.everywhere ≡ true → RatedAt T faced.symbols.words set floor before r
-  pub short : faced.everywhere ≡ false → (r.lowest ≡ before.lowest) × (r.highest ≡ 0)
+abbrev pub DegreesAt : Table → Option Faced → List ℕ → ℕ → Degrees → Degrees → Type 0
+DegreesAt T faced set floor before r = MatchOption faced ((r.lowest ≡ before.lowest) × (r.highest ≡ 0)) (λ there. RatedAt T (words_of there) set floor before r)

@@ -9,19 +9,15 @@ use facing::notes::note_at;
 use sets::{SymbolSet, insert};
 
 #[derive(Clone, Copy)]
-pub struct Faced {
+pub enum Faced {
+    // the same symbol stands in all subterms
+    Alone(u16),
     // each symbol once, however many subterms have it there
-    pub symbols: SymbolSet,
-    // every subterm has a symbol there
-    pub everywhere: bool,
-    // the symbol of the first subterm
-    pub first: u16,
-    // no subterm has another there
-    pub alone: bool,
+    Several(SymbolSet),
 }
 
-// What stands at position k, which the first of the subterms has.
-pub fn faced_at(heading: &[u16], notes: &[u16], k: usize) -> Faced
+// What stands at position k, which the first of the subterms has; none where a subterm ends before it.
+pub fn faced_at(heading: &[u16], notes: &[u16], k: usize) -> Option<Faced>
     requires within { Within heading.now notes.now × ((i : ℕ) → i < length heading.now → get_or heading.now i 0 < set_room) }
     requires notes_nonzero { (0 < note_count notes.now) × (k < size_of notes.now 0) }
     ensures { LookedAt heading.now notes.now k result }
@@ -32,12 +28,7 @@ pub fn faced_at(heading: &[u16], notes: &[u16], k: usize) -> Faced
     for o in 0..notes.len() / 2 {
         let note = note_at(notes, o);
         if k >= note.size as usize {
-            return Faced {
-                symbols: SymbolSet { words },
-                everywhere: false,
-                first,
-                alone,
-            };
+            return None;
         }
         let symbol = heading[note.start as usize + k];
         insert(&mut words, symbol);
@@ -45,10 +36,8 @@ pub fn faced_at(heading: &[u16], notes: &[u16], k: usize) -> Faced
             alone = false;
         }
     }
-    Faced {
-        symbols: SymbolSet { words },
-        everywhere: true,
-        first,
-        alone,
+    if alone {
+        return Some(Faced::Alone(first));
     }
+    Some(Faced::Several(SymbolSet { words }))
 }

@@ -1,14 +1,13 @@
 // The symbols that may stand at a position for the variable: those near enough to all that stand there.
-ghost use Rattle.std.specs.Prelude.{◌≡◌, true, false, List, ℕ, eqb};
+ghost use Rattle.std.specs.Prelude.{◌≡◌, false, List, ℕ, eqb, Option, MatchOption, IfSome};
 ghost use Rattle.meaning.specs.Buffers.{member};
 ghost use Rattle.near.specs.Near.{Kept};
 ghost use Rattle.positions.specs.Position.{KeptOf, SharedBy};
-ghost use Rattle.positions.specs.Looked.{Alone};
+ghost use Rattle.positions.specs.Looked.{words_of};
 
 use crate::faced::Faced;
-use degrees::lesser;
 use near::{lowest_of, set_of};
-use sets::{SymbolSet, next_member};
+use sets::SymbolSet;
 
 #[derive(Clone, Copy)]
 pub struct Shared {
@@ -17,19 +16,30 @@ pub struct Shared {
     pub floor: u16,
 }
 
+// No symbol at all.
+fn none_shared() -> Shared
+    ensures { (k : ℕ) → member result.set.words k ≡ false }
+{
+    Shared {
+        set: SymbolSet::empty(),
+        floor: 1000,
+    }
+}
+
 // The symbols near to all of these, of which there is one at least, over a table of so many symbols.
 fn shared_by(near: &[u64], symbols: u16, faced: SymbolSet) -> Shared
     requires { KeptOf near.now symbols faced.words }
     ensures { SharedBy near.now symbols faced.words result.set.words result.floor }
 {
-    let first = next_member(&faced.words, 0, symbols);
+    let mut others = faced.members(symbols);
+    let Some(first) = others.next() else {
+        return none_shared();
+    };
     let mut set = set_of(near, first);
     let mut floor = lowest_of(near, first);
-    let mut h = next_member(&faced.words, first + 1, symbols);
-    while h < symbols {
+    for h in others {
         set = set.intersect(set_of(near, h));
-        floor = lesser(floor, lowest_of(near, h));
-        h = next_member(&faced.words, h + 1, symbols);
+        floor = floor.min(lowest_of(near, h));
     }
     Shared { set, floor }
 }
@@ -46,20 +56,15 @@ fn shared_alone(near: &[u64], first: u16) -> Shared
 }
 
 // The same of what stands at a position: nothing is near where a subterm has no symbol.
-pub fn shared_at(near: &[u64], symbols: u16, faced: Faced) -> Shared
-    requires { faced.everywhere ≡ true → KeptOf near.now symbols faced.symbols.words × Alone faced }
-    ensures shared_by { faced.everywhere ≡ true → SharedBy near.now symbols faced.symbols.words result.set.words result.floor }
-    ensures k_value { faced.everywhere ≡ false → (k : ℕ) → member result.set.words k ≡ false }
+pub fn shared_at(near: &[u64], symbols: u16, faced: Option<Faced>) -> Shared
+    requires { IfSome faced (λ there. KeptOf near.now symbols (words_of there)) }
+    ensures { MatchOption faced
+        ((k : ℕ) → member result.set.words k ≡ false)
+        (λ there. SharedBy near.now symbols (words_of there) result.set.words result.floor) }
 {
-    if faced.everywhere {
-        if faced.alone {
-            return shared_alone(near, faced.first);
-        }
-        let there = faced.symbols;
-        return shared_by(near, symbols, there);
-    }
-    Shared {
-        set: SymbolSet::empty(),
-        floor: 1000,
+    match faced {
+        None => none_shared(),
+        Some(Faced::Alone(symbol)) => shared_alone(near, symbol),
+        Some(Faced::Several(there)) => shared_by(near, symbols, there),
     }
 }

@@ -1,48 +1,42 @@
 -- The loop keeps the least and the most of what was looked up. It ends where all symbols of the set are, or where the rest can change neither.
-use Prim.Native.Nat.{◌+◌}
-use native.Mathlib.Omega.{arith}
+use Rattle.std.proofs.Common.{arith, ◌+◌, ◌∙◌}
 use Rattle.meaning.specs.File.{table_in}
-use Rattle.positions.proofs.Rating.{RatedTo, rated_none, rated_in, rated_out, rated_all, rated_early}
+use Rattle.positions.proofs.Rating.{RatedTo, rated_next, rated_all, rated_early}
 use Rattle.positions.proofs.rated.few_degrees.Goals as goal
-use Rattle.positions.proofs.rated.few_degrees.Goals.{After-greater-best}
-
-pub loop-s-init : goal.loop-s-init
-loop-s-init c =
-    let a = c.args in
-    let found = c.next_member-s.ensures in
-    (found.is, rated_out _ _ (rated_none (table_in a.table.now) a.faced.words a.shared.set.words a.before.lowest c.requires.2) found.not_below found.none)
+use Rattle.positions.proofs.rated.few_degrees.Goals.{After-max-best}
 
 -- one symbol more is looked up
-looked_up : (c : goal.After-greater-best)
-    → let loop = c.loop-s in
-    let a = c.args in
-    RatedTo (table_in a.table.now) a.faced.words a.shared.set.words a.before.lowest (loop.s + 1) c.lesser-lowest.result c.greater-best.result
+looked_up : (c : After-max-best)
+    → RatedTo (table_in c.args.table.file.now) c.args.faced.words c.args.shared.set.words c.args.before.lowest (c.in-Some.s + 1) c.min-lowest.result c.max-best.result
 looked_up c =
     let loop = c.loop-s in
-    rated_in _ _ loop.invariant.1 (loop.invariant.0 (omega arith)) c.shared_degree-least.ensures c.lesser-lowest.ensures c.greater-best.ensures
+    let least = c.in-Some.ensures.steps.2.0 in
+    let words = loop.invariant.2 in
+    rated_next _ _ loop.invariant.4 least.not_below (omega (arith, least.below, loop.invariant.3, c.args.table.symbols_are)) (rw words at least.is) (rw words at least.none) c.shared_degree-least.ensures c.min-lowest.ensures c.max-best.ensures
 
-pub returns-then-is_settled : goal.returns-then-is_settled
-returns-then-is_settled c =
-    let r = looked_up (goal.at.returns-then-is_settled c).After-greater-best in
-    let t = c.is_settled.ensures c.if-is_settled.true in
+pub returns-then-lowest-shared : goal.returns-then-lowest-shared
+returns-then-lowest-shared c =
+    let r = looked_up (goal.at.returns-then-lowest-shared c).After-max-best in
     record {
       lowest_falls = omega (arith, r.lows);
       highest_falls = omega arith;
-      rated = λ cut L top is. rated_early _ _ r L top is _ (omega arith) t.0 t.1;
+      rated = λ cut L top is. rated_early _ _ r L top is _ (omega arith) (omega arith);
     }
 
 pub loop-s-preserved : goal.loop-s-preserved
 loop-s-preserved c =
-    let r = looked_up (goal.at.loop-s-preserved c).After-greater-best in
-    let found = c.next_member-s-in-loop-s.ensures in
-    (found.is, rated_out _ _ r found.not_below found.none)
+    let r = looked_up (goal.at.loop-s-preserved c).After-max-best in
+    let step = c.in-Some.ensures.steps in
+    (tt, tt, step.0 ∙ c.loop-s.invariant.2, step.1 ∙ c.loop-s.invariant.3, rw step.2.1 r)
 
 pub returns : goal.returns
 returns c =
-    let counted = c.counts_of-counts.ensures in
-    let r = c.loop-s.invariant.1 in
+    let t = c.args.table in
+    let loop = c.loop-s in
+    let r = loop.invariant.4 in
+    let none = rw (loop.invariant.2, loop.invariant.3, t.symbols_are) at c.in-None.ensures.steps.2 in
     record {
       lowest_falls = omega (arith, r.lows);
-      highest_falls = omega (arith, c.lesser-highest.ensures);
-      rated = λ cut L top is. rw c.lesser-highest.ensures (rated_all _ _ r L top is _ (omega (arith, counted.symbols_are)));
+      highest_falls = omega (arith, c.min.ensures);
+      rated = λ cut L top is. rw c.min.ensures (rated_all _ _ r L top is _ none);
     }

@@ -1,15 +1,13 @@
--- What each turn of the loop keeps.
-use mathlib.Core.Path.{◌≡◌}
-use mathlib.Core.Bool.{true}
-use Prim.Native.Nat.{◌-◌, ◌<◌}
+-- The symbols of the set so far are rated.
+use Rattle.std.proofs.Common.{◌≡◌}
 use Rattle.meaning.specs.File.{table_in}
-use Rattle.meaning.specs.Buffers.{member}
 use Rattle.positions.proofs.Rating.{RatedTo}
 use Rattle.positions.proofs.rated.few_degrees.Given as goal
 
 abbrev pub invariant-loop-s : goal.invariant-loop-s
 invariant-loop-s l =
-    (l.s < l.symbols → member l.set.words l.s ≡ true) × RatedTo (table_in l.table) l.faced.words l.set.words l.before.lowest l.s l.lowest l.best
-
-abbrev pub decreases-loop-s : goal.decreases-loop-s
-decreases-loop-s l = l.symbols - l.s
+    (goal.iterator-loop-s).can_next l.s-iterator
+    × (goal.iterator-loop-s).is_finite l.s-iterator
+    × (l.s-iterator.words.now ≡ l.fn.shared.set.words)
+    × (l.s-iterator.end ≡ l.table.symbols)
+    × RatedTo (table_in l.table.file.now) l.fn.faced.words l.fn.shared.set.words l.fn.before.lowest l.s-iterator.from l.lowest l.best

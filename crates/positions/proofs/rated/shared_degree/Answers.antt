@@ -1,34 +1,25 @@
--- The loop keeps the least of the degrees with those that were met, and h is the next of them, or past all symbols.
-use mathlib.Core.Path.{◌≡◌, sym as inv}
-use Prim.Native.Nat.{◌+◌, min}
-use native.Mathlib.Omega.{arith}
-use Rattle.theory.proofs.Lemmas.{fewest}
+-- Each member that is met brings its degree; at the end none of the table's symbols is left.
+use Rattle.std.proofs.Common.{arith, ◌∙◌, sym}
+use Rattle.theory.proofs.Lemmas.{skipped}
 use Rattle.meaning.specs.File.{table_in}
 use Rattle.meaning.specs.Buffers.{member}
-use Rattle.positions.proofs.Members.{fewest_in, passed_to}
+use Rattle.positions.proofs.Members.{fewest_next}
 use Rattle.positions.proofs.rated.shared_degree.Goals as goal
-
-pub loop-h-init : goal.loop-h-init
-loop-h-init c =
-    let a = c.args in
-    let found = c.next_member-h.ensures in
-    (found.is, inv (passed_to (member a.faced.words) ((table_in a.table.now).deg a.symbol) 0 _ _ (omega arith) (omega arith) found.none))
 
 pub loop-h-preserved : goal.loop-h-preserved
 loop-h-preserved c =
     let a = c.args in
     let loop = c.loop-h in
-    let b = member a.faced.words in
-    let f = (table_in a.table.now).deg a.symbol in
-    let found = c.next_member-h-in-loop-h.ensures in
-    let here : min loop.h a.counts.symbols ≡ loop.h = omega arith in
-    let so_far : loop.least ≡ fewest b f loop.h = rw here at loop.invariant.1 in
-    let one = fewest_in b f loop.h (loop.invariant.0 (omega arith)) in
-    let on = passed_to b f (loop.h + 1) c.next_member-h-in-loop-h.result a.counts.symbols found.not_below (omega arith) found.none in
-    (found.is, omega (arith, so_far, one, on, c.lesser-least.ensures, c.degree_in_row.ensures))
+    let step = c.in-Some.ensures.steps in
+    let least = step.2.0 in
+    let words = loop.invariant.2 in
+    let more = fewest_next (member a.faced.words) ((table_in a.table.file.now).deg a.symbol) loop.h-iterator.from c.in-Some.h least.not_below (rw words at least.is) (rw words at least.none) in
+    let least_is = loop.invariant.5 in
+    (tt, tt, step.0 ∙ words, step.1 ∙ loop.invariant.3, omega (arith, least.below), rw step.2.1 (omega (arith, more, c.min-least.ensures, c.degree_in_row.ensures)))
 
 pub returns : goal.returns
 returns c =
-    let a = c.args in
-    let e : min c.loop-h.h a.counts.symbols ≡ (table_in a.table.now).size = omega (arith, c.requires.0.symbols_are) in
-    rw e at c.loop-h.invariant.1
+    let t = c.args.table in
+    let loop = c.loop-h in
+    let none = rw (loop.invariant.2, loop.invariant.3, t.symbols_are) at c.in-None.ensures.steps.2 in
+    loop.invariant.5 ∙ sym (skipped (member c.args.faced.words) ((table_in t.file.now).deg c.args.symbol) loop.h-iterator.from (table_in t.file.now).size (omega (arith, t.symbols_are)) none).0

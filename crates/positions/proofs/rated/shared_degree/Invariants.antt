@@ -1,7 +1,5 @@
--- What each turn of the loop keeps.
-use mathlib.Core.Path.{◌≡◌}
-use mathlib.Core.Bool.{true}
-use Prim.Native.Nat.{◌-◌, ◌<◌, min}
+-- The least of the degrees with the members so far.
+use Rattle.std.proofs.Common.{◌≡◌, ◌≤◌}
 use Rattle.theory.proofs.Lemmas.{fewest}
 use Rattle.meaning.specs.File.{table_in}
 use Rattle.meaning.specs.Buffers.{member}
@@ -9,7 +7,9 @@ use Rattle.positions.proofs.rated.shared_degree.Given as goal
 
 abbrev pub invariant-loop-h : goal.invariant-loop-h
 invariant-loop-h l =
-    (l.h < l.symbols → member l.faced.words l.h ≡ true) × (l.least ≡ fewest (member l.faced.words) ((table_in l.table).deg l.symbol) (min l.h l.symbols))
-
-abbrev pub decreases-loop-h : goal.decreases-loop-h
-decreases-loop-h l = l.symbols - l.h
+    (goal.iterator-loop-h).can_next l.h-iterator
+    × (goal.iterator-loop-h).is_finite l.h-iterator
+    × (l.h-iterator.words.now ≡ l.fn.faced.words)
+    × (l.h-iterator.end ≡ l.table.symbols)
+    × (l.h-iterator.from ≤ l.table.symbols)
+    × (l.least ≡ fewest (member l.fn.faced.words) ((table_in l.table.file.now).deg l.symbol) l.h-iterator.from)

@@ -1,24 +1,22 @@
--- Where a subterm ends before, the set is empty; else it is that of the symbols that stand there, or of the one that does.
-use mathlib.Core.Path.{refl, sym as inv, ◌∙◌}
-use mathlib.Core.Bool.{false≢true}
-use borrow.Author.Tests.{eq-eqb}
+-- Each case is told by its function.
+use Rattle.std.proofs.Common.{◌≡◌, Some, ap, ◌∙◌}
+use Rattle.positions.specs.declared.faced.Faced.TheVariants.{Alone, Several}
+use Rattle.positions.proofs.Sharing.{one_kept}
 use Rattle.positions.proofs.shared.shared_at.Goals as goal
+use Rattle.positions.proofs.shared.shared_at.Goals.{In-Some-Alone}
+
+is_alone : (c : In-Some-Alone) → c.args.faced ≡ Some (Alone c.in-Some-Alone.symbol)
+is_alone c = let v = c.in-Some-Alone in v.is ∙ ap Some (rw v.is at v.field-0-is)
 
 pub shared_alone-requires : goal.shared_alone-requires
-shared_alone-requires c =
-    let p = c.requires c.if-faced.true in
-    p.0.kept _ (p.1 c.if-faced-2.true c.args.faced.first ∙ eq-eqb c.args.faced.first c.args.faced.first refl)
+shared_alone-requires c = (one_kept _ (rw (is_alone (goal.at.shared_alone-requires c).In-Some-Alone) at c.requires)).0
 
-pub returns-then-faced-2 : goal.returns-then-faced-2
-returns-then-faced-2 c =
-    let t = c.if-faced.true in
-    record { shared_by = λ e. c.shared_alone.ensures c.args.symbols _ ((c.requires t).1 c.if-faced-2.true); k_value = λ e. absurd (false≢true (inv e ∙ t)) }
+pub returns-in-Some-Alone : goal.returns-in-Some-Alone
+returns-in-Some-Alone c =
+    let e = is_alone (goal.at.returns-in-Some-Alone c).In-Some-Alone in
+    rw e (c.shared_alone.ensures c.args.symbols _ (one_kept c.in-Some-Alone.symbol (rw e at c.requires)).1)
 
-pub shared_by-requires : goal.shared_by-requires
-shared_by-requires c = (c.requires c.if-faced.true).0
-
-pub returns-then-faced : goal.returns-then-faced
-returns-then-faced c = let t = c.if-faced.true in record { shared_by = λ e. c.shared_by.ensures; k_value = λ e. absurd (false≢true (inv e ∙ t)) }
-
-pub returns : goal.returns
-returns c = let t = c.if-faced.false in record { shared_by = λ e. absurd (false≢true (inv t ∙ e)); k_value = λ e. c.empty.ensures }
+pub returns-in-Some-Several : goal.returns-in-Some-Several
+returns-in-Some-Several c =
+    let e : c.args.faced ≡ Some (Several c.in-Some-Several.there) = let v = c.in-Some-Several in v.is ∙ ap Some (rw v.is at v.field-0-is) in
+    rw e c.shared_by.ensures
