@@ -6,7 +6,7 @@ use Prim.Native.Nat.{ℕ, zero, suc, ◌+◌, ◌≤◌, ◌<◌, min}
 use native.Mathlib.Numerals.{add-one}
 use native.Mathlib.Omega.{arith}
 use lib.ListN.{length, get_or, drop}
-use lib.Seq.{drop-cons, drop-length}
+use lib.Seq.{drop-cons}
 use Rattle.theory.specs.Tree.{enc}
 use Rattle.theory.specs.Table.{Table, Over}
 use Rattle.theory.specs.Decode.{term_of}
@@ -82,14 +82,3 @@ module _ (T : Table) (one two : List ℕ) (i least : ℕ) (left : Left T one two
   one_less d least' l m e e' =
       let q : flat T.deg (drop i one) (drop i two) ≡ min (T.deg (get_or one i 0) (get_or two i 0)) (flat T.deg (drop (i + 1) one) (drop (i + 1) two)) = rw (add-one i, drop-cons one i 0 l, drop-cons two i 0 m) refl in
       record { inside = omega arith; bounded = omega (arith, left.bounded); lesser = omega (arith, left.lesser, q) }
-
-  -- a position of degree 0: nothing that is left can change it
-  pub no_less : i < length one → i < length two → 0 ≡ T.deg (get_or one i 0) (get_or two i 0) → 0 ≡ degree_of T one two
-  no_less l m e = omega (arith, (one_less 0 0 l m e (omega arith)).lesser)
-
-  -- nothing is left
-  pub none_left : length one ≤ i → length one ≡ length two → least ≡ degree_of T one two
-  none_left l m =
-      let e : i ≡ length one = omega (arith, left.inside) in
-      let q : flat T.deg (drop i one) (drop i two) ≡ 1000 = ap₂ (flat T.deg) (ap (λ j. drop j one) e ∙ drop-length one) (ap (λ j. drop j two) (e ∙ m) ∙ drop-length two) in
-      omega (arith, left.lesser, left.bounded, q)

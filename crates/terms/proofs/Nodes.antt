@@ -1,19 +1,15 @@
--- The kind of a node says all that the theory asks of it: whether it may stand in a term, and how many arguments follow.
+-- What the kind of a node says of its number: the ranges of the kinds do not meet, so that each kind tells where the number lies.
 use mathlib.Core.Path.{◌≡◌, refl, ◌∙◌}
-use mathlib.Core.Bool.{Bool, true, false, ◌&&◌, ◌||◌, cond}
+use mathlib.Core.Bool.{Bool, true, false, ◌&&◌, cond}
 use Prim.Native.Nat.{ℕ, ◌+◌, ◌-◌, ◌≤◌, ◌<◌}
 use native.Mathlib.Decide.{dec_lt}
 use native.Mathlib.Omega.{arith}
 use lib.Dec.{ltb, leb}
-use borrow.Author.Tests.{ltb-true, leb-true, lt-ltb, le-ltb, le-leb, lt-leb}
-use Rattle.theory.specs.Table.{Table}
-use Rattle.theory.specs.Read.{permitted, width}
+use borrow.Author.Tests.{ltb-true, leb-true, lt-ltb, le-ltb, le-leb}
 use Rattle.meaning.specs.Limits.{variable_count}
-use Rattle.terms.specs.Kinds.{kind_of, may_stand, arity_of_lem}
+use Rattle.terms.specs.Kinds.{kind_of}
 use Rattle.terms.specs.declared.kind.Kind.{Kind}
 use Rattle.terms.specs.declared.kind.Kind.TheVariants.{Symbol, Variable, Neither}
-
--- ---- the kind, from where the node's number lies
 
 module _ (s x : ℕ) where
   pub kind_symbol : x < s → Symbol x ≡ kind_of s x
@@ -23,14 +19,6 @@ module _ (s x : ℕ) where
   pub kind_variable : s ≤ x → 32768 ≤ x → x < 32800 → Variable (x - 32768) ≡ kind_of s x
   unfolding kind_of
   kind_variable l lo hi = rw (le-ltb x s l, le-leb 32768 x lo, lt-ltb x 32800 hi)
-
-  pub kind_between : s ≤ x → x < 32768 → Neither ≡ kind_of s x
-  unfolding kind_of
-  kind_between l h = rw (le-ltb x s l, lt-leb 32768 x h)
-
-  pub kind_above : s ≤ x → 32800 ≤ x → Neither ≡ kind_of s x
-  unfolding kind_of
-  kind_above l h = rw (le-ltb x s l, le-leb 32768 x (omega arith), le-ltb x 32800 h)
 
   -- LAW: a node whose kind is a symbol is that symbol, and the table has it
   pub symbol_kind : (a : ℕ) → kind_of s x ≡ Symbol a → (a ≡ x) × (x < s)
@@ -64,28 +52,3 @@ module _ (s x : ℕ) where
 
       is_not : {v : ℕ} → Variable v ≡ Neither → ⊥
       is_not q = let z : ◌≡◌ {A = ℕ} 0 1 = cc in omega arith
-
--- ---- the kind in the theory's words
-
-module _ (T : Table) (vars : Bool) (x : ℕ) where
-  -- LAW: a node may stand in a term exactly if its kind may
-  pub permitted_kind : permitted T vars x ≡ may_stand vars (kind_of T.size x)
-  unfolding kind_of
-  permitted_kind = go (ltb x T.size) (leb 32768 x && ltb x 32800) vars
-    where
-      go : (a b v : Bool) → (a || (v && b)) ≡ may_stand v (cond a (Symbol x) (cond b (Variable (x - 32768)) Neither))
-      go true b v = refl
-      go false true true = refl
-      go false true false = refl
-      go false false true = refl
-      go false false false = refl
-
-  -- LAW: as many arguments follow a node as its kind asks for
-  pub width_kind : width T vars x ≡ arity_of_lem T (kind_of T.size x)
-  unfolding kind_of
-  width_kind = go (ltb x T.size) (leb 32768 x && ltb x 32800)
-    where
-      go : (a b : Bool) → cond a (T.arity x) 0 ≡ arity_of_lem T (cond a (Symbol x) (cond b (Variable (x - 32768)) Neither))
-      go true b = refl
-      go false true = refl
-      go false false = refl

@@ -2,17 +2,14 @@
 use mathlib.Core.Path.{◌≡◌, sym, ap}
 use mathlib.Core.List.{List}
 use mathlib.Core.Bool.{Bool, false}
-use Prim.Native.Nat.{ℕ, ◌≤◌, ◌<◌}
+use Prim.Native.Nat.{ℕ, ◌≤◌}
 use lib.ListN.{length}
-use borrow.Author.Tests.{lt-ltb, le-ltb, eq-eqb, ne_eqb}
+use borrow.Author.Tests.{le-ltb, eq-eqb, ne_eqb}
 use Rattle.theory.specs.Table.{Table}
 use Rattle.theory.specs.Read.{ends, fault, walk, Reading, whole, faulty, reading}
 use Rattle.meaning.specs.Refusals.{row, fault_of, row6, row7}
 
 module _ (T : Table) (vars : Bool) (xs : List ℕ) where
-  pub too_long : 1024 < length xs → faulty 1024 ≡ reading T vars xs
-  too_long l = rw (lt-ltb 1024 (length xs) l)
-
   module _ (few : length xs ≤ 1024) (j : ℕ) where
     -- the term is the whole list
     pub all_of_it : ends j ≡ walk T vars xs 64 0 → j ≡ length xs → whole ≡ reading T vars xs

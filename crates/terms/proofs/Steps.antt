@@ -12,16 +12,7 @@ use lib.ListN.{length, get_or}
 use borrow.Author.Tests.{lt-ltb}
 use Rattle.theory.specs.Table.{Table}
 use Rattle.theory.specs.Read.{fault, several, permitted, width, walk}
-use Rattle.terms.specs.Kinds.{kind_of, may_stand, arity_of_lem}
 use Rattle.terms.specs.Heads.{following}
-use Rattle.terms.specs.declared.kind.Kind.{Kind}
-use Rattle.terms.proofs.Nodes.{permitted_kind, width_kind}
-
--- LAW: what follows a node is what its kind asks for, where it may stand
-pub following_kind : (T : Table) (vars : Bool) (x : ℕ) (k : Kind) (may : Bool) → kind_of T.size x ≡ k → may_stand vars k ≡ may
-    → cond may (just (arity_of_lem T k)) none ≡ following T vars x
-unfolding following
-following_kind T vars x k may e m = rw (permitted_kind T vars x, width_kind T vars x, e, m)
 
 module _ (T : Table) (vars : Bool) (xs : List ℕ) where
   -- the node at i may stand there, and n arguments follow it

@@ -7,6 +7,7 @@ use crate::kind::{Kind, kind_of};
 use table::sound_table::SoundTable;
 
 // How many arguments follow a node as the head of a term; none where it may not stand in one.
+#[tactic(auto, unfolding(crate::specs::Kinds::kind_of, crate::specs::Heads::following))]
 pub fn head_of(table: SoundTable, variables: bool, node: u16) -> Option<u8>
     ensures { takes_in result ≡ following (table_in table.entry.file.now) variables node }
 {

@@ -21,6 +21,7 @@ pub const FIRST_VARIABLE: u16 = 32768;
 const LAST_VARIABLE: u16 = FIRST_VARIABLE + 31;
 
 // The kind of a node over a table of so many symbols.
+#[tactic(auto, unfolding(crate::specs::Kinds::kind_of))]
 pub fn kind_of(symbols: u16, node: u16) -> Kind
     requires { symbols ≤ most_symbols }
     ensures { result ≡ kind_of symbols node }

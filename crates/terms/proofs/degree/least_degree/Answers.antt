@@ -1,10 +1,10 @@
 -- The loop keeps the least degree so far: with what is left of both lists it comes to the degree of the two, and at the end nothing is left.
-use mathlib.Core.Path.{sym, ap₂, ◌∙◌}
+use mathlib.Core.Path.{ap₂, ◌∙◌}
 use native.Mathlib.Omega.{arith}
 use lib.ListN.{length, length-append}
 use Rattle.meaning.specs.File.{table_in}
-use Rattle.std.proofs.lemmas.Slice.Zip.{zip_turn, zip_end}
-use Rattle.terms.proofs.Degrees.{node_symbol, all_left, one_less, no_less, none_left}
+use Rattle.std.proofs.lemmas.Slice.Zip.{zip_turn}
+use Rattle.terms.proofs.Degrees.{node_symbol, all_left, one_less}
 use Rattle.terms.proofs.degree.least_degree.Goals as goal
 
 pub loop-a-init : goal.loop-a-init
@@ -18,18 +18,8 @@ degree_in_row-here-requires-clause-symbols c =
     let symbol = node_symbol c.args.table.file.now c.args.table.sound in
     (rw (turn.2 0) (symbol c.args.one.now c.requires.headings.0 i turn.0), rw (turn.3 0) (symbol c.args.two.now c.requires.headings.1 i turn.1))
 
-pub returns-then-here-eq0 : goal.returns-then-here-eq0
-returns-then-here-eq0 c =
-    let turn = zip_turn c.args.one.now c.args.two.now c.loop-a.yielded _ _ c.next.new.self _ (cc) (cc) c.loop-a.yielded_by _ c.in-Some.is c.next.ensures.steps in
-    no_less _ _ _ _ _ c.loop-a.invariant turn.0 turn.1 (sym c.if-here-eq0.true ∙ c.degree_in_row-here.ensures ∙ ap₂ (table_in c.args.table.file.now).deg (turn.2 0) (turn.3 0))
-
 pub loop-a-preserved : goal.loop-a-preserved
 loop-a-preserved c =
     let turn = zip_turn c.args.one.now c.args.two.now c.loop-a.yielded _ _ c.next.new.self _ (cc) (cc) c.loop-a.yielded_by _ c.in-Some.is c.next.ensures.steps in
     rw length-append
     (one_less _ _ _ _ _ c.loop-a.invariant _ _ turn.0 turn.1 (c.degree_in_row-here.ensures ∙ ap₂ (table_in c.args.table.file.now).deg (turn.2 0) (turn.3 0)) (omega (arith, c.min-least.ensures)))
-
-pub returns : goal.returns
-returns c =
-    let end = zip_end c.args.one.now c.args.two.now c.loop-a.yielded _ _ c.next.new.self _ (cc) (cc) c.loop-a.yielded_by c.in-None.is c.next.ensures.steps in
-    none_left _ _ _ _ _ c.loop-a.invariant (omega (arith, end)) (omega arith)

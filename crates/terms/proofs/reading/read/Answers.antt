@@ -14,7 +14,7 @@ use Rattle.theory.specs.Read.{faulty}
 use Rattle.terms.specs.Heads.{takes_in}
 use Rattle.terms.specs.Levels.{up_to}
 use Rattle.terms.proofs.Levels.{first_node, list_ends_lem, node_strays, level_opens, too_deep, next_beside, next_around, term_ends}
-use Rattle.terms.proofs.Readings.{too_long, all_of_it, more_after, fault_in}
+use Rattle.terms.proofs.Readings.{all_of_it, more_after, fault_in}
 use Rattle.terms.proofs.reading.read.Goals as goal
 use Rattle.terms.proofs.reading.read.Goals.{then-arguments-gt0+else-depth-eq-MOST_AROUND, else-arguments-gt0+then-here-eq0+in-Some, else-arguments-gt0+else-here-eq0}
 
@@ -26,9 +26,6 @@ takes None d n r e q is = absurd (let z : ◌≡◌ {A = Result ℕ ℕ} (Err d)
 strays : (o : Option ℕ) (d i : ℕ) (r : Result ℕ ℕ) {w : Asked ℕ} → takes_in o ≡ w → r ≡ ok_or o d → r ≡ Err i → (w ≡ none) × (i ≡ d)
 strays (Some m) d i r e q is = absurd (let z : ◌≡◌ {A = Result ℕ ℕ} (Ok m) (Err i) = cc in let w : ◌≡◌ {A = ℕ} 0 1 = cc in omega arith)
 strays None d i r e q is = (sym e, cc)
-
-pub returns-then-list : goal.returns-then-list
-returns-then-list c = let a = c.args in too_long (table_in a.table.file.now) a.variables a.list.now (omega arith)
 
 pub loop-at-init : goal.loop-at-init
 loop-at-init c = first_node _ _ _ _ (search rules)
