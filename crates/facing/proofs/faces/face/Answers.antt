@@ -16,15 +16,7 @@ use Rattle.terms.specs.declared.kind.Kind.TheVariants.{Symbol, Variable}
 use Rattle.terms.proofs.Nodes.{symbol_kind, variable_kind}
 use Rattle.facing.proofs.Passing.{readable_asked, passing_start, passing_symbol, passing_clash, symbol_faces, variable_faces, passing_variable, passing_kinds, passing_end}
 use Rattle.facing.proofs.faces.face.Goals as goal
-use Rattle.facing.proofs.faces.face.Goals.{Joined-i-eq-EARLY, then-i-eq-EARLY, else-i-eq-EARLY, in-Symbol+else-degree-asked, in-Variable, in-Neither}
-
--- the rows, laid out or not
-rows_are : (c : goal.Joined-i-eq-EARLY) → RowsLaid c.args.asked.table.file.now c.args.rows.now c.if-i-eq-EARLY.rows
-rows_are c =
-    elim c.if-i-eq-EARLY.branch [
-      | then-i-eq-EARLY w ↦ rw w.rows-is (laid_again c.loop-i.invariant.2 w.lay_where_worth.ensures)
-      | else-i-eq-EARLY w ↦ rw w.rows-is c.loop-i.invariant.2
-    ]
+use Rattle.facing.proofs.faces.face.Goals.{then-i-eq-EARLY, else-i-eq-EARLY, in-Symbol+else-degree-asked, in-Variable, in-Neither}
 
 -- ---- the node at which a turn stands, by its kind over as many symbols as the table has
 
@@ -51,34 +43,36 @@ bounds-asked-at c =
     let is = is_symbol a.table _ _ c.kind_of.ensures _ c.in-Symbol.is in
     (symbol_faces (readable_asked a) _ c.loop-i.invariant.3 (omega arith) is.1).0
 
-pub degree_in_row-degree-requires : goal.degree_in_row-degree-requires
-degree_in_row-degree-requires c =
+pub degree_in_row-degree-requires-clause-symbols : goal.degree_in_row-degree-requires-clause-symbols
+degree_in_row-degree-requires-clause-symbols c =
     let a = c.args.asked in
     let is = is_symbol a.table _ _ c.kind_of.ensures _ c.in-Symbol.is in
     let faces = symbol_faces (readable_asked a) _ c.loop-i.invariant.3 (omega arith) is.1 in
-    let rows = rows_are (goal.at.degree_in_row-degree-requires c).Joined-i-eq-EARLY in
-    record { rows = rows.rows; symbols = (omega (arith, is.0, is.1), faces.1) }
+    (omega (arith, is.0, is.1), faces.1)
 
-pub returns-then-degree-asked : goal.returns-then-degree-asked
+pub returns-then-degree-asked-clause-faced_by : goal.returns-then-degree-asked-clause-faced_by
 unfolding faces_in
-returns-then-degree-asked c =
+returns-then-degree-asked-clause-faced_by c =
     let a = c.args.asked in
     let is = is_symbol a.table _ _ c.kind_of.ensures _ c.in-Symbol.is in
     let met = degree_is (table_in a.table.file.now) _ _ _ _ is.0 c.degree_in_row-degree.ensures in
-    let clash = passing_clash (readable_asked a) _ c.loop-i.invariant.3 (omega arith) is.1 (omega (arith, met)) in
-    record { faced_by = clash; rows_laid = rows_are (goal.at.returns-then-degree-asked c).Joined-i-eq-EARLY }
+    passing_clash (readable_asked a) _ c.loop-i.invariant.3 (omega arith) is.1 (omega (arith, met))
 
-pub note_subterm-at-requires : goal.note_subterm-at-requires
-note_subterm-at-requires c =
+pub note_subterm-at-requires-clause-stands : goal.note_subterm-at-requires-clause-stands
+note_subterm-at-requires-clause-stands c =
     let a = c.args.asked in
     let is = is_variable a.table _ _ c.kind_of.ensures _ c.in-Variable.is in
-    record { stands = variable_faces (readable_asked a) _ c.loop-i.invariant.3 (omega arith) is; room = omega arith }
+    variable_faces (readable_asked a) _ c.loop-i.invariant.3 (omega arith) is
 
 pub loop-i-preserved : goal.loop-i-preserved
 loop-i-preserved c =
     let a = c.args.asked in
     let r = readable_asked a in
-    let rows = rows_are (goal.at.loop-i-preserved c).Joined-i-eq-EARLY in
+    let rows : RowsLaid a.table.file.now c.args.rows.now c.if-i-eq-EARLY.rows =
+    elim c.if-i-eq-EARLY.branch [
+      | then-i-eq-EARLY w ↦ rw w.rows-is (laid_again c.loop-i.invariant.2 w.lay_where_worth.ensures)
+      | else-i-eq-EARLY w ↦ rw w.rows-is c.loop-i.invariant.2
+    ] in
     let kept = c.loop-i.invariant in
     let notes : length c.match-kind_of.notes ≡ length c.args.notes.now = omega arith in
     elim c.match-kind_of.branch [
@@ -94,8 +88,8 @@ loop-i-preserved c =
       | in-Neither w ↦ absurd (passing_kinds r _ kept.3 (omega arith) (kind_is a.table _ _ c.kind_of.ensures ∙ w.in-Neither.is))
     ]
 
-pub returns : goal.returns
+pub returns-clause-faced_by : goal.returns-clause-faced_by
 unfolding faces_in
-returns c =
+returns-clause-faced_by c =
     let e = passing_end (readable_asked c.args.asked) _ c.loop-i.invariant.3 (omega arith) in
-    record { faced_by = record { clear = e.0; lowest = e.1; noted = e.2 }; rows_laid = c.loop-i.invariant.2 }
+    record { clear = e.0; lowest = e.1; noted = e.2 }
