@@ -57,11 +57,11 @@ impl<'a> Text<'a> {
     }
 
     // One of 64 bits has at most twenty.
-    pub fn put_long(&mut self, n: u64)
+    pub fn put_long(&mut self, long: u64)
         requires { self.old.used + 20 ≤ length self.old.buffer.now }
-        ensures { PutBy self.old (long_numeral n) self.new × (self.new.used ≤ self.old.used + 20) }
+        ensures { PutBy self.old (long_numeral long) self.new × (self.new.used ≤ self.old.used + 20) }
     {
         let mut digits = Buffer::new();
-        self.put_text(digits.format(n).as_bytes());
+        self.put_text(digits.format(long).as_bytes());
     }
 }
