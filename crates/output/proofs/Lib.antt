@@ -1,5 +1,4 @@
 -- Laws that the proofs of functions cite, here and in the crates above.
-pub mod Digits
 pub mod Titles
 pub mod Saying
 pub mod Going

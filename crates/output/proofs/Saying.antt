@@ -4,30 +4,32 @@ use mathlib.Core.Path.{◌≡◌, refl, sym, ap, ap₂, subst, ◌∙◌}
 use mathlib.Core.List.{List, [], ◌++◌, append-nil, append_assoc}
 use mathlib.Core.Bool.{Bool, true, false}
 use Prim.Native.Nat.{ℕ, ◌+◌, ◌≤◌, ◌<◌}
-use native.Mathlib.Nat.{add-zero}
 use native.Mathlib.Omega.{arith}
 use lib.ListN.{length, take, drop, length-append, drop_of_length-le}
 use lib.Seq.{length-take-le, take_at, drop-append-le, drop-drop}
 use Rattle.meaning.specs.Over.{over}
-use Rattle.meaning.proofs.Over.{length_over}
+use borrow.Author.Rules.{rules}
+use Rattle.std.specs.Prelude.{Result, Ok, Err, IsErr}
+use Rattle.text.specs.declared.Text.{Text}
 use Rattle.text.specs.Texts.{PutBy}
 use Rattle.lines.specs.Lines.{line_room}
 use Rattle.output.specs.declared.pending.Pending.{Pending}
-use Rattle.output.specs.declared.pending.Pending.TheVariants.{Bytes, Failed}
-use Rattle.output.specs.Pendings.{Passed, Said, HandedOver, Settled, Roomy, handed, with_written_lem}
+use Rattle.output.specs.declared.pending.Failed.{Failed}
+use Rattle.output.specs.Pendings.{Passed, HasRoom, Said, HandedOver, Settled, Roomy}
 
 -- LAW: a text that is put behind what stands there
-pub passed_put : {before : List ℕ} {used : ℕ} {text : List ℕ} {end : ℕ} {after : List ℕ} → PutBy before used text end after → Passed before used text 0 end after
+pub passed_put : {a b : Text} {text : List ℕ} → PutBy a text b → Passed a.buffer.now a.used text 0 b.used b.buffer.now
 unfolding over
-passed_put {before} {used} {text} {end} {after} put =
-    let front = take used before ++ text in
-    let rest = drop (used + length text) before in
-    let long : length front ≡ end = omega (arith, put.ends, put.inside, length-append (take used before) text, length-take-le used before (omega (arith, put.ends, put.inside))) in
+passed_put {a} {b} {text} put =
+    let before = a.buffer.now in
+    let front = take a.used before ++ text in
+    let rest = drop (a.used + length text) before in
+    let long : length front ≡ b.used = omega (arith, put.ends, length-append (take a.used before) text, length-take-le a.used before a.inside) in
     record {
       counted = omega (arith, put.ends);
-      inside = put.inside;
-      same = ap length put.written ∙ length_over before used text (omega (arith, put.ends, put.inside));
-      stands = ap (take end) put.written ∙ take_at front rest end long;
+      inside = omega (arith, put.room, b.inside);
+      same = put.room;
+      stands = ap (take b.used) put.written ∙ take_at front rest b.used long;
     }
 
 -- LAW: nothing said
@@ -36,7 +38,7 @@ passed_none {before} {used} l =
     record { counted = omega arith; inside = l; same = refl; stands = sym (append-nil (take used before)) }
 
 -- LAW: what is handed over whole
-pub passed_out : {before : List ℕ} {used written end : ℕ} → used ≤ length before → HandedOver used (Bytes written end) → Passed before used [] written end before
+pub passed_out : {before : List ℕ} {used written end : ℕ} → used ≤ length before → (written ≡ used) × (end ≡ 0) → Passed before used [] written end before
 passed_out {before} {used} {written} {end} l (all, none) =
     let stood = take used before ++ [] in
     let short : length stood ≤ written = omega (arith, length-append (take used before) [], length-take-le used before l) in
@@ -48,19 +50,15 @@ passed_out {before} {used} {written} {end} l (all, none) =
     }
 
 -- LAW: nothing is said where one settles what stands there
-pub passed_settled : (before : List ℕ) (used : ℕ) (waits : Bool) (r : Pending) {written end : ℕ} → used ≤ length before → Settled used waits r → r ≡ Bytes written end
-    → Passed before used [] written end before
-passed_settled before used true r l all e = passed_out l (subst (HandedOver used) e all)
-passed_settled before used false r {written} {end} l stays e =
-    let none : 0 ≡ written = cc in
-    let same : used ≡ end = cc in
-    subst (λ n. Passed before used [] n end before) none (subst (λ n. Passed before used [] 0 n before) same (passed_none l))
+pub passed_settled : (before : List ℕ) (used : ℕ) (waits : Bool) (p : Pending) → used ≤ length before → Settled used waits (Ok p) → Passed before used [] p.written p.standing before
+passed_settled before used true p l all = passed_out l all
+passed_settled before used false p l (none, same) = rw (none, same) (passed_none l)
 
 -- LAW: where there is no room for a line, and then there is
-pub said_out : (before : List ℕ) (used : ℕ) (r : Pending) → used ≤ length before → length before < used + line_room → line_room ≤ length before → HandedOver used r
+pub said_out : (before : List ℕ) (used : ℕ) (r : Result Pending Failed) → used ≤ length before → length before < used + line_room → line_room ≤ length before → HandedOver used r
     → Said before used [] r before × Roomy (length before) line_room r
-said_out before used (Bytes written end) l full room all = ((passed_out l all, λ spare. absurd (omega arith)), omega (arith, all.1))
-said_out before used Failed l full room all = ((λ spare. omega arith), tt)
+said_out before used (Ok p) l full room all = ((passed_out l all, λ spare. absurd (omega arith)), omega (arith, all.1))
+said_out before used (Err failed) l full room all = ((λ spare. omega arith), tt)
 
 -- LAW: one text after the other
 pub passed_then : {before : List ℕ} {used : ℕ} {t₁ t₂ mid after : List ℕ} {w e w' e' n : ℕ} → used ≤ length before
@@ -80,36 +78,39 @@ passed_then {before} {used} {t₁} {t₂} {mid} {after} {w} {e} {w'} {e'} {n} in
           ∙ ap₂ drop (sym sum) (append_assoc (take used before) t₁ t₂);
     }
 
-module _ (before : List ℕ) (used : ℕ) (t₁ t₂ mid after : List ℕ) where
-  -- LAW: said one after the other
-  pub said_then : {w e : ℕ} → used ≤ length before → Said before used t₁ (Bytes w e) mid → (r : Pending) → Said mid e t₂ r after
-      → Said before used (t₁ ++ t₂) (with_written_lem w r) after
-  said_then {w} {e} inside (p, first) (Bytes w' e') (q, second) = (
-    passed_then inside p q refl,
-    λ room.
-        let none : w ≡ 0 = first (omega (arith, room, length-append t₁ t₂)) in
-        let later : w' ≡ 0 = second (omega (arith, room, none, p.counted, p.same, length-append t₁ t₂)) in
-        omega arith,
-  )
-  said_then {w} {e} inside (p, first) Failed second =
-      λ room.
-      let none : w ≡ 0 = first (omega (arith, room, length-append t₁ t₂)) in
-      second (omega (arith, room, none, p.counted, p.same, length-append t₁ t₂))
+module _ (before : List ℕ) (used : ℕ) (t₁ t₂ mid after : List ℕ) (inside : used ≤ length before) (p : Pending) (said : Said before used t₁ (Ok p) mid) where
+  -- what has room has none to be written before
+  none_before : HasRoom before used (t₁ ++ t₂) → (p.written ≡ 0) × HasRoom mid p.standing t₂
+  none_before room =
+      let none : p.written ≡ 0 = said.1 (omega (arith, room, length-append t₁ t₂)) in
+      (none, omega (arith, room, none, said.0.counted, said.0.same, length-append t₁ t₂))
 
-  -- LAW: where the first could not be written, nothing more is said
-  pub said_failed : Said before used t₁ Failed mid → Said before used (t₁ ++ t₂) Failed after
-  said_failed failed = λ room. failed (omega (arith, room, length-append t₁ t₂))
+  -- LAW: said one after the other
+  pub said_then : (q : Pending) → Said mid p.standing t₂ (Ok q) after → (r : Pending) → r.written ≡ p.written + q.written → r.standing ≡ q.standing → Said before used (t₁ ++ t₂) (Ok r) after
+  said_then q (passed, second) r sum same = (
+    subst (λ n. Passed before used (t₁ ++ t₂) r.written n after) (sym same) (passed_then inside said.0 passed sum),
+    λ room. let none = none_before room in omega (arith, none.0, second none.1),
+  )
 
   -- LAW: put behind what was said
-  pub said_then_put : {w e end : ℕ} → used ≤ length before → Said before used t₁ (Bytes w e) mid → PutBy mid e t₂ end after → Said before used (t₁ ++ t₂) (Bytes w end) after
-  said_then_put {w} {e} {end} inside said put =
-      subst (λ n. Said before used (t₁ ++ t₂) (Bytes n end) after) (add-zero w) (said_then inside said (Bytes 0 end) (passed_put put, λ room. refl))
+  pub said_then_put : {a b : Text} → PutBy a t₂ b → a.used ≡ p.standing → a.buffer.now ≡ mid → b.buffer.now ≡ after → (r : Pending) → r.written ≡ p.written → r.standing ≡ b.used
+      → Said before used (t₁ ++ t₂) (Ok r) after
+  said_then_put {a} {b} put from here end r same stands =
+      let e : r.written ≡ p.written + 0 = omega arith in
+      let passed = subst (λ n. Passed n p.standing t₂ 0 b.used after) here (subst (λ n. Passed a.buffer.now n t₂ 0 b.used after) from (subst (Passed a.buffer.now a.used t₂ 0 b.used) end (passed_put put))) in (
+        subst (λ n. Passed before used (t₁ ++ t₂) r.written n after) (sym stands) (passed_then inside said.0 passed e),
+        λ room. omega (arith, (none_before room).0),
+      )
 
--- LAW: no more is handed over than there was
-pub said-handed : (before : List ℕ) (used : ℕ) (text : List ℕ) (r : Pending) (after : List ℕ) → Said before used text r after → handed r ≤ used + length text
-said-handed before used text (Bytes written end) after (p, first) = omega (arith, p.counted)
-said-handed before used text Failed after failed = omega arith
+  -- LAW: a write that failed was one for want of room
+  pub said_then_failed : (failed : Failed) → Said mid p.standing t₂ (Err failed) after → Said before used (t₁ ++ t₂) (Err failed) after
+  said_then_failed failed second = λ room. second (none_before room).1
 
--- LAW: what stands lies in the buffer
-pub said_inside : (before : List ℕ) (used : ℕ) (text : List ℕ) (r : Pending) (after : List ℕ) {written end : ℕ} → Said before used text r after → r ≡ Bytes written end → end ≤ length before
-said_inside before used text r after said e = (subst (λ r. Said before used text r after) e said).0.inside
+-- LAW: where the first could not be written, nothing more is said
+pub said_failed : (before : List ℕ) (used : ℕ) (t₁ t₂ mid after : List ℕ) (failed : Failed) → Said before used t₁ (Err failed) mid → Said before used (t₁ ++ t₂) (Err failed) after
+said_failed before used t₁ t₂ mid after failed first = λ room. first (omega (arith, room, length-append t₁ t₂))
+
+-- LAW: a write that failed may be told in any way
+pub said_err : (before : List ℕ) (used : ℕ) (text : List ℕ) (r : Result Pending Failed) (after : List ℕ) → IsErr r → (HasRoom before used text → ⊥) → Said before used text r after
+said_err before used text (Ok p) after e full = absurd (search rules)
+said_err before used text (Err failed) after e full = full

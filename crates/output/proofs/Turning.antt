@@ -5,7 +5,9 @@ use mathlib.Core.Bool.{Bool, true, false}
 use Prim.Native.Nat.{ℕ, ◌+◌, ◌≤◌}
 use native.Mathlib.Omega.{arith}
 use lib.ListN.{length}
-use Rattle.output.specs.declared.pending.Pending.TheVariants.{Bytes, Failed}
+use Rattle.std.specs.Prelude.{Ok, Err}
+use Rattle.output.specs.declared.pending.Pending.{Pending}
+use Rattle.output.specs.declared.pending.Failed.{Failed}
 use Rattle.output.specs.Pendings.{Passed, Said, Settled}
 use Rattle.output.specs.Turns.{MustWrite, Answered, Unanswered}
 use Rattle.output.proofs.Saying.{passed_none, passed_out, passed_then}
@@ -23,17 +25,15 @@ prepared_as to from ready = record { passed = ready.passed; first = λ o. ready.
 
 module _ (at end : ℕ) (before : List ℕ) (used : ℕ) (inside : used ≤ length before) where
   -- LAW: what is settled by the test is prepared
-  pub ready_by : (waits : Bool) → MustWrite at end used waits → (gone left : ℕ) → Settled used waits (Bytes gone left) → Prepared (at ≡ end) before used gone left
-  ready_by true must gone left (e, f) = record { passed = passed_out inside (e, f); first = λ _. omega arith; stays = λ idle. absurd (omega (arith, idle must.0, must.1)) }
-  ready_by false must gone left e =
-      let none_gone : gone ≡ 0 = cc in
-      let all_left : left ≡ used = cc in
+  pub ready_by : (waits : Bool) → MustWrite at end used waits → (p : Pending) → Settled used waits (Ok p) → Prepared (at ≡ end) before used p.written p.standing
+  ready_by true must p (e, f) = record { passed = passed_out inside (e, f); first = λ _. omega arith; stays = λ idle. absurd (omega (arith, idle must.0, must.1)) }
+  ready_by false must p (none_gone, all_left) =
       record { passed = rw (none_gone, all_left) (passed_none inside); first = λ e. omega (arith, must e); stays = λ _. all_left }
 
   -- LAW: and nothing can fail where nothing has to be written
-  pub failed_by : (waits : Bool) → MustWrite at end used waits → Settled used waits Failed → (at ≡ end → used ≡ 0) → ⊥
-  failed_by true must _ idle = omega (arith, idle must.0, must.1)
-  failed_by false must e idle = let z : ◌≡◌ {A = ℕ} 0 1 = cc in omega arith
+  pub failed_by : (waits : Bool) → MustWrite at end used waits → (failed : Failed) → Settled used waits (Err failed) → (at ≡ end → used ≡ 0) → ⊥
+  failed_by true must failed _ idle = omega (arith, idle must.0, must.1)
+  failed_by false must failed never idle = never
 
 module _ {A : Type 0} (text_of : A → List ℕ) {Has Had : A → Type 0} {Waits : Type 0} {before : List ℕ} {used gone left : ℕ}
     (inside : used ≤ length before) (ready : Prepared Waits before used gone left) (had : (next : A) → Has next → Had next) where
@@ -53,8 +53,8 @@ module _ {A : Type 0} (text_of : A → List ℕ) {Has Had : A → Type 0} {Waits
 
 module _ {A : Type 0} (text_of : A → List ℕ) {Has : A → Type 0} {before : List ℕ} {used : ℕ} (next : A) (has : Has next) where
   -- LAW: what is said is an answer, or it is not for want of room
-  pub answered : {written standing : ℕ} {after : List ℕ} → Said before used (text_of next) (Bytes written standing) after → Answered text_of Has ⊥ before used standing after
-  answered {written} said = record { next = next; has = has; written = written; passed = said.0; first = λ never. absurd never; later = λ _. said.1 }
+  pub answered : (p : Pending) {after : List ℕ} → Said before used (text_of next) (Ok p) after → Answered text_of Has ⊥ before used p.standing after
+  answered p said = record { next = next; has = has; written = p.written; passed = said.0; first = λ never. absurd never; later = λ _. said.1 }
 
-  pub unanswered : (after : List ℕ) → Said before used (text_of next) Failed after → Unanswered text_of Has before used
-  unanswered after said = record { next = next; has = has; full = said }
+  pub unanswered : (after : List ℕ) (failed : Failed) → Said before used (text_of next) (Err failed) after → Unanswered text_of Has before used
+  unanswered after failed said = record { next = next; has = has; full = said }

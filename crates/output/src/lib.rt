@@ -1,6 +1,5 @@
 // What the programs say, to standard output in large pieces.
 #![tactic(auto)]
 
-pub mod long;
 pub mod pending;
 pub mod say;

@@ -1,85 +1,52 @@
 -- What was handed over, what stands and what is still to come is the whole text; each time the buffer is full or the text is over, so that less is
 -- left after each piece.
-use mathlib.Core.Path.{◌≡◌, refl, sym, ap, subst, ◌∙◌}
-use mathlib.Core.Bool.{true, false, false≢true}
+use mathlib.Core.Path.{refl, ◌∙◌}
+use Prim.Native.Nat.{◌≤◌}
 use native.Mathlib.Omega.{arith}
-use Rattle.lines.specs.declared.line.Cursor.{Cursor}
-use Rattle.lines.specs.declared.line.Cursor.TheVariants.{First, Variable, Position, End}
-use Rattle.output.specs.declared.pending.Pending.TheVariants.{Bytes}
-use Rattle.output.specs.Pendings.{HandedOver, is_over}
-use Rattle.output.proofs.Going.{going_none, going_more, going_less, going_over, going_failed, going_count}
+use borrow.Author.Rules.{rules}
+use lib.ListN.{length}
+use Rattle.lines.specs.Lines.{line_room}
+use Rattle.lines.proofs.Turns.{fill_less}
+use Rattle.output.specs.declared.pending.Pending.{Pending}
+use Rattle.output.proofs.Saying.{said_err}
+use Rattle.output.proofs.Going.{going_none, going_more, going_over, going_failed, going_count}
 use Rattle.output.proofs.pending.put_answer.Goals as goal
-use Rattle.output.proofs.pending.put_answer.Goals.{In-Bytes}
 
--- a cursor that is not over stands at a line
-not-over : {cursor : Cursor} → is_over cursor ≡ false → cursor ≡ End → ⊥
-not-over e over = false≢true (sym e ∙ ap is_over over)
+pub loop-next-init : goal.loop-next-init
+loop-next-init c = let a = c.args.answer in going_none a.outcome a.spans.now a.sets.now c.fill-next.ensures.on
 
-at-end : (cursor : Cursor) → is_over cursor ≡ true → cursor ≡ End
-at-end First e = absurd (false≢true e)
-at-end (Variable v) e = absurd (false≢true e)
-at-end (Position v k) e = absurd (false≢true e)
-at-end End e = refl
-
-pub loop-rt-init : goal.loop-rt-init
-loop-rt-init c =
-    let a = c.args in
-    let first = c.fill-filled in
-    going_none a.outcome a.spans.now a.sets.now first.ensures.on (omega (arith, first.ensures.put.inside, first.auto.out))
-
-pub write_out-requires : goal.write_out-requires
-write_out-requires c = let inv = c.loop-rt.invariant in omega (arith, inv.passed.inside, inv.passed.same)
-
--- where there is more to say, all that stood is handed over
-emptied : (c : goal.In-Bytes) → HandedOver c.loop-rt.end (Bytes c.in-Bytes.gone c.in-Bytes.left)
-emptied c = subst (HandedOver c.loop-rt.end) c.in-Bytes.is c.write_out.ensures
-
-on-way : (c : goal.In-Bytes) → c.loop-rt.cursor ≡ End → ⊥
-on-way c = not-over (sym c.is_over.ensures ∙ c.loop-rt-test.true)
-
-pub fill-more-requires : goal.fill-more-requires
-fill-more-requires c = (c.requires.spanned.0, c.loop-rt.invariant.on, omega (arith, (emptied (goal.at.fill-more-requires c).In-Bytes).1))
+pub returns-in_err-full : goal.returns-in_err-full
+returns-in_err-full c =
+    let a = c.args.answer in
+    let loop = c.loop-next in
+    said_err c.args.out.now c.args.used _ c.from_residual.result _ c.from_residual.ensures.0
+    (going_failed a.outcome a.spans.now a.sets.now _ c.fill-next.new.text c.fill-next.result c.fill-next.ensures loop.written loop.next loop.text loop.invariant c.in-Some.cursor c.in-Some.is)
 
 pub overflow_add-written : goal.overflow_add-written
 overflow_add-written c =
-    let a = c.args in
-    let first = c.fill-filled in
-    let loop = c.loop-rt in
-    let few = going_count a.outcome a.spans.now a.sets.now a.out.now a.used first.result _ first.ensures loop.written loop.end loop.cursor loop.out loop.invariant c.requires.spanned.0 c.requires.spanned.1 in
-    record { fits = omega (arith, few, (emptied (goal.at.overflow_add-written c).In-Bytes).0, c.requires.used_in_bounds.0, c.well_formed.1.1.1.1.0.1) }
+    let a = c.args.answer in
+    let loop = c.loop-next in
+    let few = going_count a.outcome a.spans.now a.sets.now _ c.fill-next.new.text c.fill-next.result c.fill-next.ensures loop.written loop.next loop.text loop.invariant a.spanned c.requires.few_sets in
+    record { fits = omega (arith, few, c.in_ok-full.ensures.0, c.requires.used_in_bounds.0, c.well_formed) }
 
-pub loop-rt-smaller : goal.loop-rt-smaller
-loop-rt-smaller c =
-    let a = c.args in
-    let loop = c.loop-rt in
-    let more = c.fill-more in
-    going_less a.outcome a.spans.now a.sets.now loop.written loop.end loop.cursor loop.out loop.invariant (on-way (goal.at.loop-rt-smaller c).In-Bytes) _ _ more.result _ (omega (arith, c.requires.used_in_bounds.1, c.fill-filled.auto.out)) (emptied (goal.at.loop-rt-smaller c).In-Bytes) more.ensures
+pub loop-next-smaller : goal.loop-next-smaller
+loop-next-smaller c =
+    let a = c.args.answer in
+    let loop = c.loop-next in
+    let room : line_room ≤ length loop.text.buffer.now = omega (arith, c.requires.used_in_bounds.1, c.fill-next.ensures.put.room, loop.invariant.passed.same) in
+    rw c.in-Some.is (fill_less a.outcome a.spans.now a.sets.now c.in-Some.cursor _ c.fill-next-in-Some.result c.fill-next-in-Some.new.text c.fill-next-in-Some.ensures c.in_ok-full.ensures.1 (rw c.in-Some.is at loop.invariant.on) room)
 
-pub loop-rt-preserved : goal.loop-rt-preserved
-loop-rt-preserved c =
-    let a = c.args in
-    let first = c.fill-filled in
-    let loop = c.loop-rt in
-    let more = c.fill-more in
-    going_more a.outcome a.spans.now a.sets.now loop.written loop.end loop.cursor loop.out loop.invariant (on-way (goal.at.loop-rt-preserved c).In-Bytes) _ _ more.result _ (omega (arith, first.ensures.put.inside, first.auto.out)) (emptied (goal.at.loop-rt-preserved c).In-Bytes) more.ensures
-
-pub shape_of-out-in-Failed : goal.shape_of-out-in-Failed
-shape_of-out-in-Failed c = c.loop-rt.invariant.passed.same ∙ c.fill-filled.auto.out
-
-pub returns-in-Failed : goal.returns-in-Failed
-returns-in-Failed c =
-    let a = c.args in
-    let first = c.fill-filled in
-    let loop = c.loop-rt in
-    let on-way = not-over (sym c.is_over.ensures ∙ c.loop-rt-test.true) in
-    going_failed a.outcome a.spans.now a.sets.now a.out.now a.used first.result _ first.ensures loop.written loop.end loop.cursor loop.out loop.invariant on-way
-
-pub shape_of-out : goal.shape_of-out
-shape_of-out c = c.loop-rt.invariant.passed.same ∙ c.fill-filled.auto.out
+pub loop-next-preserved : goal.loop-next-preserved
+loop-next-preserved c =
+    let a = c.args.answer in
+    let loop = c.loop-next in
+    let gone = c.in_ok-full.ensures in
+    rw gone.0 (going_more a.outcome a.spans.now a.sets.now (rw c.in-Some.is at loop.invariant) _ refl refl gone.1 c.fill-next-in-Some.result c.fill-next-in-Some.new.text c.fill-next-in-Some.ensures)
 
 pub returns : goal.returns
 returns c =
-    let a = c.args in
-    let first = c.fill-filled in
-    let loop = c.loop-rt in
-    going_over a.outcome a.spans.now a.sets.now a.out.now a.used first.result _ first.ensures loop.written loop.end loop.cursor loop.out loop.invariant (at-end loop.cursor (sym c.is_over.ensures ∙ c.loop-rt-test.false))
+    let a = c.args.answer in
+    let loop = c.loop-next in
+    let same = loop.invariant.same_buffer ∙ c.fill-next.ensures.put.same_buffer in
+    let said : Pending = record { written = loop.written; standing = loop.text.used } in
+    going_over a.outcome a.spans.now a.sets.now _ c.fill-next.new.text c.fill-next.result c.fill-next.ensures loop.written loop.next loop.text loop.invariant c.in_default.is said refl refl (search (rules, same))
