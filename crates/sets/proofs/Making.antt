@@ -1,14 +1,12 @@
 -- Words made one after the other, each by one operation from a word of two sets: the operation is then done to each member, since it is
 -- done to each bit.
-use mathlib.Core.Path.{◌≡◌, refl, sym as inv, ap, ap₂, ◌∙◌}
+use mathlib.Core.Path.{◌≡◌, sym as inv, ap, ap₂, ◌∙◌}
 use mathlib.Core.Bool.{Bool, false}
 use mathlib.Core.List.{List}
-use Prim.Native.Nat.{ℕ, ◌+◌, ◌/◌, ◌%◌, ◌≤◌, ◌<◌}
+use Prim.Native.Nat.{ℕ, ◌/◌, ◌%◌, ◌≤◌, ◌<◌}
 use native.Mathlib.Decide.{dec_lt}
 use native.Mathlib.Omega.{arith}
-use borrow.Author.Count.{below_none, below_more}
-use lib.Seq.{get_or-set_same, get_or-set_other}
-use lib.ListN.{length, get_or, set, length-set}
+use lib.ListN.{length, get_or}
 use Rattle.meaning.specs.Limits.{word_bits}
 use Rattle.meaning.specs.Buffers.{bit, member}
 use Rattle.sets.proofs.Laws.{none_past}
@@ -20,20 +18,6 @@ module _ (op : ℕ → ℕ → ℕ) (n : ℕ) (a b : List ℕ) where
     pub count : length w ≡ n
     pub made : (j : ℕ) → j < i → get_or w j 0 ≡ op (get_or a j 0) (get_or b j 0)
     pub kept : (j : ℕ) → i ≤ j → get_or w j 0 ≡ get_or a j 0
-
-  pub made_none : length a ≡ n → Made a 0
-  made_none e = record { within = omega arith; count = e; made = below_none _; kept = λ j l. refl }
-
-  pub made_more : (w : List ℕ) (i : ℕ) → i < n → Made w i → Made (set w i (op (get_or w i 0) (get_or b i 0))) (i + 1)
-  made_more w i l m =
-      let v = op (get_or w i 0) (get_or b i 0) in
-      let here : v ≡ op (get_or a i 0) (get_or b i 0) = ap (λ x. op x (get_or b i 0)) (m.kept i (omega arith)) in
-      record {
-        within = omega arith;
-        count = length-set w i v ∙ m.count;
-        made = below_more _ i (λ j below. get_or-set_other w i j v 0 (λ e. omega arith) ∙ m.made j below) (get_or-set_same w i v 0 (omega (arith, m.count)) ∙ here);
-        kept = λ j above. get_or-set_other w i j v 0 (λ e. omega arith) ∙ m.kept j (omega arith);
-      }
 
   pub made_members : (g : Bool → Bool → Bool) → ((k x y : ℕ) → bit k (op x y) ≡ g (bit k x) (bit k y)) → g false false ≡ false
       → length a ≡ n → length b ≡ n → (w : List ℕ) (i : ℕ) → n ≤ i → Made w i → (k : ℕ) → member w k ≡ g (member a k) (member b k)

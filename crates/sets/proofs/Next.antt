@@ -13,7 +13,7 @@ use lib.Pow.{shr-shr, shr_lt}
 use Rattle.meaning.specs.Limits.{word_bits}
 use Rattle.meaning.specs.Buffers.{bit, member}
 use Rattle.meaning.proofs.Bits.{bit-zero}
-use Rattle.sets.specs.Words.{NoneBetween, NextMember}
+use Rattle.sets.specs.Words.{NoneBetween, NextBelow}
 use Rattle.sets.proofs.Word.{low_clear, low_set}
 
 -- what is left of a word from symbol k on
@@ -49,9 +49,9 @@ module _ (ws : List ℕ) (from k : ℕ) where
       rw to at (none_more (word_bits - k % word_bits) (omega arith) (λ i l. ap (bit i) e ∙ bit-zero i) none)
 
   -- LAW: the next member is in this word
-  pub found_in_word : (n : ℕ) → get_or ws (k / word_bits) 0 < 2 ^ word_bits → from ≤ k → k < word_bits * n → 0 < rest → NoneBetween ws from k
-      → NextMember n ws from (k + count_trailing_zeros word_bits rest)
-  found_in_word n fits l m some none =
+  pub found_in_word : (n end : ℕ) → get_or ws (k / word_bits) 0 < 2 ^ word_bits → from ≤ k → k < word_bits * n → 0 < rest → NoneBetween ws from k
+      → NextBelow n ws from end (k + count_trailing_zeros word_bits rest)
+  found_in_word n end fits l m some none =
       record {
         not_below = omega arith;
         room = omega (arith, low.0);

@@ -23,10 +23,3 @@ pub record NextBelow (n : ℕ) (ws : List ℕ) (from end r : ℕ) : Type 0 where
   pub room : r ≤ word_bits * n
   pub none : NoneBetween ws from r
   pub is : r < end → member ws r ≡ true
-
--- r is the least member of n words that is not below `from`, or past all that they tell of where there is none
-pub record NextMember (n : ℕ) (ws : List ℕ) (from r : ℕ) : Type 0 where
-  pub not_below : from ≤ r
-  pub room : r ≤ word_bits * n
-  pub none : NoneBetween ws from r
-  pub is : r < word_bits * n → member ws r ≡ true

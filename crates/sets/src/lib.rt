@@ -35,14 +35,6 @@ impl SymbolSet {
         }
     }
 
-    // The least symbol of the set that is not below `from`, as `next_member` says.
-    pub fn next(self, from: u16, end: u16) -> u16
-        requires { (from ≤ set_room) × (end ≤ set_room) }
-        ensures { NextBelow set_words_lem self.words from end result }
-    {
-        next_member(&self.words, from, end)
-    }
-
     // The symbols that are in both sets.
     pub fn intersect(self, other: SymbolSet) -> SymbolSet
         ensures { (k : ℕ) → member result.words k ≡ (member self.words k && member other.words k) }
@@ -131,17 +123,16 @@ impl<'a> Iterator for Members<'a> {
 }
 
 // The least symbol of a set that is not below `from`, or some number that is not below `end` where none is below that. Words past the end
-// are not looked at, so that the symbols of a small table cost no more than they are. The words are lent, so that a loop over the members copies none.
-pub fn next_member(words: &[u64; SymbolSet::WORDS], from: u16, end: u16) -> u16
+// are not looked at, so that the symbols of a small table cost no more than they are.
+fn next_member(words: &[u64; SymbolSet::WORDS], from: u16, end: u16) -> u16
     requires { (from ≤ set_room) × (end ≤ set_room) }
     ensures { NextBelow set_words_lem words.now from end result }
 {
     let mut k = from;
     while k < end {
-        let word = &words[(k / SymbolSet::BITS) as usize];
-        let rest = *word >> (k % SymbolSet::BITS);
+        let rest = words[(k / SymbolSet::BITS) as usize] >> (k % SymbolSet::BITS);
         if rest != 0 {
-            return k + u64::trailing_zeros(rest) as u16;
+            return k + rest.trailing_zeros() as u16;
         }
         k = (k / SymbolSet::BITS + 1) * SymbolSet::BITS;
     }
