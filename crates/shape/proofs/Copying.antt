@@ -1,17 +1,15 @@
 -- The numbers that stand from a byte on: as many as are copied are the first of them, and with each store there is one more.
-use mathlib.Core.Path.{◌≡◌, refl, sym, ap, ◌∙◌}
+use mathlib.Core.Path.{◌≡◌, refl, sym, ap, ap₂, ◌∙◌}
 use mathlib.Core.List.{List, [], ◌∷◌, ◌++◌}
 use Prim.Native.Nat.{ℕ, zero, suc, ◌+◌, ◌*◌, ◌≤◌, ◌<◌, min}
-use native.Mathlib.Nat.{add-zero, zero-add}
+use native.Mathlib.Nat.{add-zero}
 use native.Mathlib.Numerals.{add-one}
 use native.Mathlib.Decide.{dec_lt}
 use native.Mathlib.Omega.{arith}
 use lib.ListN.{length, set, take}
-use lib.Seq.{take_all}
+use lib.Seq.{take_all, take-suc-set}
 use Rattle.meaning.specs.File.{number}
-use Rattle.meaning.specs.Over.{over}
 use Rattle.meaning.specs.Program.{numbers_from}
-use Rattle.meaning.proofs.Over.{length_over, over_then, over_one}
 
 module _ (bytes : List ℕ) where
   pub length_numbers : (at n : ℕ) → length (numbers_from bytes at n) ≡ n
@@ -39,10 +37,6 @@ module _ (bytes : List ℕ) where
       ap (λ ns. number bytes at ∷ ns) (numbers_last (at + 2) n ∙ ap (λ i. numbers_from bytes (at + 2) n ++ (number bytes i ∷ [])) e)
 
   -- LAW: a number more, by a store
-  pub copy_more : (out : List ℕ) (at i : ℕ) → i < length out → set (over out 0 (numbers_from bytes at i)) i (number bytes (at + 2 * i)) ≡ over out 0 (numbers_from bytes at (i + 1))
-  copy_more out at i l =
-      let ns = numbers_from bytes at i in
-      let n = length_numbers at i in
-      over_one (over out 0 ns) i _ (omega (arith, length_over out 0 ns (omega arith)))
-      ∙ rw zero-add at (over_then out 0 ns i (number bytes (at + 2 * i) ∷ []) n (omega arith))
-      ∙ ap (over out 0) (sym (numbers_last at i) ∙ ap (numbers_from bytes at) (sym (add-one i)))
+  pub copy_more : (at i : ℕ) (nodes : List ℕ) → i < length nodes → take i nodes ≡ numbers_from bytes at i → (n : ℕ) → n ≡ number bytes (at + 2 * i)
+      → take (i + 1) (set nodes i n) ≡ numbers_from bytes at (i + 1)
+  copy_more at i nodes l e n f = rw add-one (take-suc-set nodes i n l ∙ ap₂ (λ ns k. ns ++ (k ∷ [])) e f ∙ sym (numbers_last at i))

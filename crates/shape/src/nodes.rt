@@ -4,20 +4,14 @@ ghost use Rattle.meaning.specs.Program.{numbers_from};
 
 use table::number::number_at;
 
-pub fn fewer(a: usize, b: usize) -> usize
-    ensures { result ≡ min a b }
-{
-    if a < b { a } else { b }
-}
-
 // Copies so many numbers, which stand from byte `at` on, to the front of `out`, or as many as it has room for; answers how many.
 pub fn copy_nodes(input: &[u8], at: usize, count: usize, out: &mut [u16]) -> usize
     requires { at + 2 * count ≤ length input.now }
     ensures { (result ≡ min count (length out.old)) × (out.new ≡ numbers_from input.now at result ++ drop result out.old) }
 {
-    let copied = fewer(count, out.len());
-    for i in 0..copied {
-        out[i] = number_at(input, at + 2 * i);
+    let copied = count.min(out.len());
+    for (i, node) in out[..copied].iter_mut().enumerate() {
+        *node = number_at(input, at + 2 * i);
     }
     copied
 }

@@ -1,8 +1,7 @@
 // The question file's header: seven numbers of two bytes, the cut first, then the counts of nodes, three offsets and the total.
-ghost use Rattle.std.specs.Prelude.{◌≡◌, not, ◌≤◌, length};
+ghost use Rattle.std.specs.Prelude.{◌≡◌, ◌≤◌, ◌↔◌, IsTrue, length};
 ghost use Rattle.meaning.specs.File.{number};
-ghost use Rattle.meaning.specs.Refusals.{row, at0, row12};
-ghost use Rattle.shape.specs.Shapes.{ShapedBy};
+ghost use Rattle.shape.specs.Shapes.{WellPlaced, ShapedBy};
 
 use table::number::number_at;
 
@@ -14,52 +13,35 @@ pub struct Header {
     pub heading: u16,
 }
 
-#[derive(Clone, Copy)]
-pub enum Shape {
-    Misshapen,
-    Question(Header),
-}
-
 // Whether the offsets and the total are what the counts of nodes ask for. A sum may be above 65,535, so they are compared as whole numbers.
 fn well_placed(input: &[u8], pattern: usize, heading: usize) -> bool
     requires in_bounds { (14 ≤ length input.now) × (length input.now ≤ 65535) }
     requires pattern_value { (pattern ≡ number input.now 2) × (heading ≡ number input.now 4) }
-    ensures { row12 input.now ≡ row 12 (at0 (not result)) }
+    ensures { IsTrue result ↔ WellPlaced input.now }
 {
-    if number_at(input, 6) != 14 {
-        return false;
-    }
     let heading_at = 14 + 2 * pattern;
-    if number_at(input, 8) as usize != heading_at {
-        return false;
-    }
     let table_at = heading_at + 2 * heading;
-    if number_at(input, 10) as usize != table_at {
-        return false;
-    }
-    if number_at(input, 12) as usize != input.len() {
-        return false;
-    }
-    // what is left is the table, which may have no bytes
-    table_at <= input.len()
+    number_at(input, 6) == 14
+        && number_at(input, 8) as usize == heading_at
+        && number_at(input, 10) as usize == table_at
+        && number_at(input, 12) as usize == input.len()
+        // what is left is the table, which may have no bytes
+        && table_at <= input.len()
 }
 
 // The header, unless the question is misshapen.
-pub fn take_apart(input: &[u8]) -> Shape
+pub fn take_apart(input: &[u8]) -> Option<Header>
     ensures { ShapedBy input.now result }
 {
-    if input.len() > 65535 {
-        return Shape::Misshapen;
-    }
-    if input.len() < 14 {
-        return Shape::Misshapen;
+    if input.len() > 65535 || input.len() < 14 {
+        return None;
     }
     let pattern = number_at(input, 2);
     let heading = number_at(input, 4);
     if !well_placed(input, pattern as usize, heading as usize) {
-        return Shape::Misshapen;
+        return None;
     }
-    Shape::Question(Header {
+    Some(Header {
         cut: number_at(input, 0),
         pattern,
         heading,

@@ -2,7 +2,6 @@
 ghost use Rattle.std.specs.Prelude.{◌≡◌};
 ghost use Rattle.shape.specs.Rooms.{room_for};
 
-use crate::nodes::fewer;
 use sets::SymbolSet;
 use table::number::number_at;
 
@@ -19,5 +18,5 @@ pub fn room_for(input: &[u8]) -> usize
     if input.len() < 14 {
         return 0;
     }
-    SymbolSet::WORDS * fewer(number_at(input, 4) as usize, LONGEST)
+    SymbolSet::WORDS * (number_at(input, 4) as usize).min(LONGEST)
 }

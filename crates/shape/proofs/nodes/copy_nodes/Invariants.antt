@@ -1,11 +1,8 @@
--- What each turn of the loop keeps.
+-- The first i nodes are the first i numbers.
 use mathlib.Core.Path.{◌≡◌}
-use Prim.Native.Nat.{◌≤◌}
-use lib.ListN.{length}
-use Rattle.meaning.specs.Over.{over}
+use lib.ListN.{take}
 use Rattle.meaning.specs.Program.{numbers_from}
 use Rattle.shape.proofs.nodes.copy_nodes.Given as goal
 
 abbrev pub invariant-loop-i : goal.invariant-loop-i
-invariant-loop-i l =
-    (l.i ≤ l.copied) × (length l.out ≡ length l.initial.out) × (l.out ≡ over l.initial.out 0 (numbers_from l.input l.at l.i))
+invariant-loop-i l = take l.i l.node-items ≡ numbers_from l.input l.at l.i

@@ -8,6 +8,4 @@ pub returns-then-input-lt14 : goal.returns-then-input-lt14
 returns-then-input-lt14 c = sym (room_none _ (omega arith))
 
 pub returns : goal.returns
-returns c =
-    let input = c.args.input.now in
-    rw (c.fewer.ensures, c.number_at.ensures) (sym (room_some input (omega arith)))
+returns c = rw (c.min.ensures, c.number_at.ensures) (sym (room_some c.args.input.now (omega arith)))
