@@ -1,27 +1,28 @@
 -- One position of a variable that several subterms face: what the functions on the position give is the set there, and its degrees taken into the
 -- least so far.
-use mathlib.Core.Path.{◌≡◌, refl, sym as inv, ap, ◌∙◌}
+use mathlib.Core.Path.{◌≡◌, sym as inv, ap, ◌∙◌}
 use mathlib.Core.List.{List}
-use mathlib.Core.Bool.{Bool, true, false}
+use mathlib.Core.Bool.{true, false}
 use Prim.Native.Nat.{ℕ, ◌+◌, ◌≤◌, ◌<◌, min}
 use native.Mathlib.Omega.{arith}
 use lib.ListN.{length, get_or}
+use Rattle.std.specs.Prelude.{Option, Some, None, MatchOption, IfSome}
 use Rattle.theory.specs.Tree.{Term}
 use Rattle.theory.specs.Table.{Table}
 use Rattle.theory.specs.Match.{in_set, lowest_at_lem, highest_at}
-use Rattle.theory.specs.Stands.{start_of, Gathered}
+use Rattle.theory.specs.Stands.{start_of, size_of, Gathered}
 use Rattle.meaning.specs.Limits.{set_room}
-use Rattle.meaning.specs.File.{table_in}
 use Rattle.meaning.specs.Buffers.{member}
-use Rattle.wide.specs.declared.Degrees.{Degrees}
+use Rattle.refusal.specs.declared.Degrees.{Degrees}
 use Rattle.positions.specs.Position.{note_count, KeptOf, NearOf, NearTo, StandAt, SharedBy}
-use Rattle.positions.specs.Looked.{LookedAt, DegreesAt}
+use Rattle.positions.specs.Looked.{words_of, LookedAt, AloneBelow, DegreesAt}
 use Rattle.positions.specs.declared.faced.Faced.{Faced}
+use Rattle.positions.specs.declared.faced.Faced.TheVariants.{Alone, Several}
 use Rattle.positions.specs.declared.shared.Shared.{Shared}
 use Rattle.positions.proofs.Standing.{set-shared, lowest-shared, highest-shared, set-none, lowest-none, highest-none}
 use Rattle.variable.specs.Variable.{OwnNotes}
 
-module _ {table near heading notes : List ℕ} (own : OwnNotes table near heading notes) {k : ℕ} {faced : List ℕ} (stand : StandAt heading notes k (note_count notes) faced) where
+module _ {T : Table} {near heading notes : List ℕ} (own : OwnNotes T near heading notes) {k : ℕ} {faced : List ℕ} (stand : StandAt heading notes k (note_count notes) faced) where
   -- a symbol that stands there has its place in the heading
   place : (h : ℕ) → member faced h ≡ true → (i : ℕ) × (i < length heading) × (get_or heading i 0 ≡ h)
   place h e =
@@ -29,7 +30,7 @@ module _ {table near heading notes : List ℕ} (own : OwnNotes table near headin
       (start_of notes o.0 + k, omega (arith, stand.reach o.0 o.1, own.within o.0 o.1), o.2)
 
   -- LAW: the near sets of what stands there are gathered
-  pub stand_kept : {symbols : ℕ} → symbols ≡ (table_in table).size → symbols ≤ set_room → KeptOf near symbols faced
+  pub stand_kept : {symbols : ℕ} → symbols ≡ T.size → symbols ≤ set_room → KeptOf near symbols faced
   stand_kept size few =
       record {
         few = few;
@@ -39,7 +40,7 @@ module _ {table near heading notes : List ℕ} (own : OwnNotes table near headin
       }
 
   -- .. and are those of the table at the cut
-  pub stand_near : {T : Table} {cut : ℕ} → NearOf T cut near heading → NearTo T cut near faced
+  pub stand_near : {cut : ℕ} → NearOf T cut near heading → NearTo T cut near faced
   stand_near known =
       record {
         lawful = known.lawful;
@@ -48,16 +49,27 @@ module _ {table near heading notes : List ℕ} (own : OwnNotes table near headin
         symbols = λ h e. let i = place h e in omega (arith, known.symbols i.0 i.1, i.2);
       }
 
--- LAW: degrees do not rise
-pub degrees_fall : {T : Table} (faced : Faced) {set : List ℕ} {floor : ℕ} {before r : Degrees} → DegreesAt T faced set floor before r
-    → (r.lowest ≤ before.lowest) × (r.highest ≤ before.highest)
-degrees_fall faced {before = before} {r} d = go faced.everywhere refl
-  where
-    go : (b : Bool) → faced.everywhere ≡ b → (r.lowest ≤ before.lowest) × (r.highest ≤ before.highest)
-    go true e = ((d.whole e).lowest_falls, (d.whole e).highest_falls)
-    go false e = (omega (arith, (d.short e).0), omega (arith, (d.short e).1))
+-- LAW: so are those of whatever was found to stand there
+pub looked_kept : {T : Table} {near heading notes : List ℕ} (own : OwnNotes T near heading notes) {k symbols : ℕ} (faced : Option Faced) → LookedAt heading notes k faced
+    → symbols ≡ T.size → symbols ≤ set_room → IfSome faced (λ there. KeptOf near symbols (words_of there))
+looked_kept own None looked size few = tt
+looked_kept own (Some there) looked size few = stand_kept own looked.stand size few
 
-module _ {T : Table} {cut : ℕ} {table near heading notes : List ℕ} (own : OwnNotes table near heading notes) (known : NearOf T cut near heading)
+-- LAW: a symbol that stands there alone is one of the table's
+pub looked_below : {T : Table} {near heading notes : List ℕ} (own : OwnNotes T near heading notes) {k : ℕ} (faced : Option Faced) → LookedAt heading notes k faced
+    → k < size_of notes 0 → AloneBelow T.size faced
+looked_below own None looked inside = tt
+looked_below {notes = notes} own {k} (Some (Alone symbol)) looked inside =
+    omega (arith, looked.alone_is, own.within 0 own.some, own.symbols (start_of notes 0 + k) (omega (arith, own.within 0 own.some)))
+looked_below own (Some (Several set)) looked inside = tt
+
+-- LAW: degrees do not rise
+pub degrees_fall : (T : Table) (faced : Option Faced) (set : List ℕ) (floor : ℕ) {before r : Degrees} → DegreesAt T faced set floor before r
+    → (r.lowest ≤ before.lowest) × (r.highest ≤ before.highest)
+degrees_fall T None set floor d = (omega arith, omega arith)
+degrees_fall T (Some there) set floor d = (d.lowest_falls, d.highest_falls)
+
+module _ {T : Table} {cut : ℕ} {near heading notes : List ℕ} (own : OwnNotes T near heading notes) (known : NearOf T cut near heading)
     {ts : List Term} (g : Gathered heading notes (note_count notes) ts) (k : ℕ) where
   -- The set of the position, and its degrees with those before.
   pub record Position (set : List ℕ) (before r : Degrees) : Type 0 where
@@ -66,26 +78,22 @@ module _ {T : Table} {cut : ℕ} {table near heading notes : List ℕ} (own : Ow
     pub highest_is : r.highest ≡ min before.highest (highest_at T cut ts k)
 
   -- LAW
-  pub position : (faced : Faced) (shared : Shared) (before r : Degrees) {symbols : ℕ} → T.size ≡ symbols → before.lowest ≤ 1000 → LookedAt heading notes k faced
-      → (faced.everywhere ≡ true → SharedBy near symbols faced.symbols.words shared.set.words shared.floor)
-      → (faced.everywhere ≡ false → (s : ℕ) → member shared.set.words s ≡ false)
+  pub position : (faced : Option Faced) (shared : Shared) (before r : Degrees) {symbols : ℕ} → T.size ≡ symbols → before.lowest ≤ 1000 → LookedAt heading notes k faced
+      → MatchOption faced ((s : ℕ) → member shared.set.words s ≡ false) (λ there. SharedBy near symbols (words_of there) shared.set.words shared.floor)
       → DegreesAt T faced shared.set.words shared.floor before r → Position shared.set.words before r
-  position faced shared before r size top looked set none degrees = go faced.everywhere refl
-    where
-      go : (b : Bool) → faced.everywhere ≡ b → Position shared.set.words before r
-      go true e =
-          let stand = looked.whole e in
-          let is = set e T cut size (stand_near own stand known) in
-          let rated = (degrees.whole e).rated cut known.lawful known.top is in
-          record {
-            set_is = λ s. is.set_is s ∙ set-shared known g k stand s;
-            lowest_is = rated.lowest_is ∙ ap (min before.lowest) (lowest-shared known g k stand);
-            highest_is = rated.highest_is ∙ ap (min before.highest) (highest-shared known g k stand);
-          }
-      go false e =
-          let short = looked.short e in
-          record {
-            set_is = λ s. none e s ∙ inv (set-none known g k short s);
-            lowest_is = omega (arith, (degrees.short e).0, lowest-none known g k short);
-            highest_is = omega (arith, (degrees.short e).1, highest-none known g k short);
-          }
+  position None shared before r size top looked none degrees =
+      let short = looked.stand in
+      record {
+        set_is = λ s. none s ∙ inv (set-none known g k short s);
+        lowest_is = omega (arith, degrees.0, lowest-none known g k short);
+        highest_is = omega (arith, degrees.1, highest-none known g k short);
+      }
+  position (Some there) shared before r size top looked set degrees =
+      let stand = looked.stand in
+      let is = set T cut size (stand_near own stand known) in
+      let rated = degrees.rated cut known.lawful known.top is in
+      record {
+        set_is = λ s. is.set_is s ∙ set-shared known g k stand s;
+        lowest_is = rated.lowest_is ∙ ap (min before.lowest) (lowest-shared known g k stand);
+        highest_is = rated.highest_is ∙ ap (min before.highest) (highest-shared known g k stand);
+      }

@@ -5,7 +5,6 @@ use Rattle.theory.specs.Table.{Table}
 use Rattle.theory.specs.Least.{every, some, lowest}
 use Rattle.theory.specs.Match.{positions, in_set, lowest_at_lem, highest_at}
 use Rattle.theory.specs.Stands.{Gathered}
-use Rattle.meaning.specs.File.{table_in}
 use Rattle.meaning.specs.Packing.{through, all_words_lem}
 use Rattle.meaning.specs.Over.{over}
 use Rattle.positions.specs.Position.{note_count, Within, Covers, NearOf}
@@ -22,7 +21,7 @@ pub record PackedTo (T : Table) (cut : ℕ) (ts : List Term) (n : ℕ) (before a
 -- All positions are, of these terms, at whatever cut the near sets are of.
 abbrev pub PackedOf : Table → List ℕ → List ℕ → List Term → List ℕ → List ℕ → Found → Type 0
 PackedOf T near heading ts before after r =
-    (cut : ℕ) → NearOf T cut near heading → PackedTo T cut ts (positions ts) before after r.formed r.lowest r.highest
+    (cut : ℕ) → NearOf T cut near heading → PackedTo T cut ts (positions ts) before after r.formed r.degrees.lowest r.degrees.highest
 
 -- .. of whatever terms stand where the notes say
 abbrev pub VariablePacked : Table → List ℕ → List ℕ → List ℕ → List ℕ → List ℕ → Found → Type 0
@@ -33,9 +32,9 @@ abbrev pub PackedAlone : List ℕ → List ℕ → List ℕ → List ℕ → Fou
 PackedAlone near nodes before after r = (T : Table) (t : Term) → nodes ≡ enc t → PackedOf T near nodes (t ∷ []) before after r
 
 -- A variable's notes are of some subterms inside the heading, whose symbols are those of the table and have their near sets.
-pub record OwnNotes (table near heading notes : List ℕ) : Type 0 where
+pub record OwnNotes (T : Table) (near heading notes : List ℕ) : Type 0 where
   pub covers : Covers heading near
-  pub symbols : (i : ℕ) → i < length heading → get_or heading i 0 < (table_in table).size
+  pub symbols : (i : ℕ) → i < length heading → get_or heading i 0 < T.size
   pub few : length heading ≤ 1024
   pub within : Within heading notes
   pub some : 0 < note_count notes

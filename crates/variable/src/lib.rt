@@ -5,30 +5,27 @@ ghost use Rattle.std.specs.Prelude.{◌≡◌, ℕ, ◌*◌, ◌<◌, ◌≤◌,
 ghost use Rattle.theory.specs.Table.{Table};
 ghost use Rattle.theory.specs.Stands.{size_of};
 ghost use Rattle.meaning.specs.Limits.{set_words_lem};
-ghost use Rattle.meaning.specs.File.{table_in};
-ghost use Rattle.meaning.specs.Refusals.{SoundFile};
+ghost use Rattle.table.specs.Sound.{table_of};
 ghost use Rattle.wide.specs.Index.{Index};
 ghost use Rattle.positions.specs.Position.{note_count, Within, Covers};
 ghost use Rattle.variable.specs.Variable.{PackedAlone, OwnNotes, VariablePacked};
 
-use degrees::lesser;
 use degrees::rows::lay_where_worth;
 use facing::notes::note_at;
 use near::{lowest_of, set_of};
 use positions::faced::faced_at;
 use positions::rated::degrees_at;
 use positions::shared::shared_at;
+use refusal::Degrees;
 use sets::SymbolSet;
-use table::read::counts_of;
-use wide::Degrees;
+use table::sound_table::SoundTable;
 
 #[derive(Clone, Copy)]
 pub struct Found {
     // some term may stand for the variable
     pub formed: bool,
     // the least over its positions of the lowest and of the highest degree there
-    pub lowest: u16,
-    pub highest: u16,
+    pub degrees: Degrees,
 }
 
 // Packs the sets of a variable that one term faces: at each position the near set of the symbol there, in which the symbol itself is.
@@ -37,15 +34,14 @@ fn pack_alone(near: &[u64], term: &[u16], sets: &mut [u64]) -> Found
     ensures { PackedAlone near.now term.now sets.old sets.new result }
 {
     let mut lowest: u16 = 1000;
-    for k in 0..term.len() {
-        let symbol = term[k];
-        set_of(near, symbol).put(sets, SymbolSet::WORDS * k);
-        lowest = lesser(lowest, lowest_of(near, symbol));
+    for (k, symbol) in term.iter().enumerate() {
+        set_of(near, *symbol).put(sets, SymbolSet::WORDS * k);
+        lowest = lowest.min(lowest_of(near, *symbol));
     }
+    let highest = 1000;
     Found {
         formed: true,
-        lowest,
-        highest: 1000,
+        degrees: Degrees { lowest, highest },
     }
 }
 
@@ -63,59 +59,52 @@ fn pack_one(near: &[u64], heading: &[u16], notes: &[u16], sets: &mut [u64]) -> F
 
 // Packs the sets of a variable that several subterms face.
 fn pack_shared(
-    table: &[u8],
+    table: SoundTable,
     near: &[u64],
     index: &mut [u16],
     heading: &[u16],
     notes: &[u16],
     sets: &mut [u64],
 ) -> Found
-    requires sound_file { SoundFile table.now × Index table.now index.old × OwnNotes table.now near.now heading.now notes.now }
+    requires own_notes { Index table.file.now index.old × OwnNotes (table_of table) near.now heading.now notes.now }
     requires notes_in_bounds { set_words_lem * size_of notes.now 0 ≤ length sets.old }
-    ensures index { Index table.now index.new }
-    ensures variable_packed { VariablePacked (table_in table.now) near.now heading.now notes.now sets.old sets.new result }
+    ensures index { Index table.entry.file.now index.new }
+    ensures variable_packed { VariablePacked (table_of table.entry) near.now heading.now notes.now sets.old sets.new result }
 {
-    let counts = counts_of(table);
     // the first subterm has as many nodes as the variable has positions
     let positions = note_at(notes, 0).size as usize;
-    lay_where_worth(table, counts, index, heading.len());
+    lay_where_worth(table, index, heading.len());
     let mut formed = true;
-    let mut range = Degrees {
+    let mut degrees = Degrees {
         lowest: 1000,
         highest: 1000,
     };
     for k in 0..positions {
         let faced = faced_at(heading, notes, k);
-        let shared = shared_at(near, counts.symbols, faced);
+        let shared = shared_at(near, table.symbols, faced);
         let set = shared.set;
         set.put(sets, SymbolSet::WORDS * k);
         if set.is_empty() {
             formed = false;
         }
-        range = degrees_at(table, index, faced, shared, range);
+        degrees = degrees_at(table, index, faced, shared, degrees);
     }
-    let lowest = range.lowest;
-    let highest = range.highest;
-    Found {
-        formed,
-        lowest,
-        highest,
-    }
+    Found { formed, degrees }
 }
 
 // Packs the sets of the variable whose notes these are, at the cut of the near sets.
 pub fn pack_variable(
-    table: &[u8],
+    table: SoundTable,
     near: &[u64],
     index: &mut [u16],
     heading: &[u16],
     notes: &[u16],
     sets: &mut [u64],
 ) -> Found
-    requires sound_file { SoundFile table.now × Index table.now index.old × OwnNotes table.now near.now heading.now notes.now }
+    requires own_notes { Index table.file.now index.old × OwnNotes (table_of table) near.now heading.now notes.now }
     requires notes_in_bounds { set_words_lem * size_of notes.now 0 ≤ length sets.old }
-    ensures index { Index table.now index.new }
-    ensures variable_packed { VariablePacked (table_in table.now) near.now heading.now notes.now sets.old sets.new result }
+    ensures index { Index table.entry.file.now index.new }
+    ensures variable_packed { VariablePacked (table_of table.entry) near.now heading.now notes.now sets.old sets.new result }
 {
     if notes.len() / 2 == 1 {
         return pack_one(near, heading, notes, sets);

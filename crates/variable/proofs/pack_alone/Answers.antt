@@ -18,13 +18,6 @@ use Rattle.variable.proofs.pack_alone.Goals as goal
 pub loop-k-init : goal.loop-k-init
 loop-k-init c = (omega arith, refl, λ T t cut writes known. packed_none T cut (t ∷ []) _)
 
-pub set_of-requires : goal.set_of-requires
-set_of-requires c = (c.requires.0 c.loop-k.k (omega arith)).0
-
-pub lowest_of-requires : goal.lowest_of-requires
-lowest_of-requires c =
-    c.requires.0 c.loop-k.k (omega arith)
-
 pub loop-k-preserved : goal.loop-k-preserved
 loop-k-preserved c =
     let loop = c.loop-k in
@@ -39,7 +32,7 @@ loop-k-preserved c =
           packed_next T cut (t ∷ []) c.args.sets.now loop.k set.result.words false (loop.invariant.2 T t cut writes known) (omega (arith, c.requires.1)) words
           (λ s. near s ∙ set_alone known t writes loop.k (omega arith) s) c.put.ensures
           (λ e. absurd (false≢true e), λ none. absurd (false≢true (inv (none _) ∙ here))) refl
-          (c.lesser-lowest.ensures ∙ ap (min loop.lowest) (c.lowest_of.ensures ∙ lowest_alone known t writes loop.k (omega arith)))
+          (c.min-lowest.ensures ∙ ap (min loop.lowest) (c.lowest_of.ensures ∙ lowest_alone known t writes loop.k (omega arith)))
           (omega (arith, highest_alone known t writes loop.k (omega arith))),
     )
 

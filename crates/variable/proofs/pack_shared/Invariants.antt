@@ -5,7 +5,7 @@ use Prim.Native.Nat.{ℕ, ◌≤◌}
 use lib.ListN.{length}
 use Rattle.theory.specs.Tree.{Term}
 use Rattle.theory.specs.Stands.{Gathered}
-use Rattle.meaning.specs.File.{table_in}
+use Rattle.table.specs.Sound.{table_of}
 use Rattle.wide.specs.Index.{Index}
 use Rattle.positions.specs.Position.{note_count, NearOf}
 use Rattle.variable.specs.Variable.{PackedTo}
@@ -16,8 +16,8 @@ invariant-loop-k l =
     (l.k ≤ l.positions)
     × (length l.index ≡ length l.initial.index)
     × (length l.sets ≡ length l.initial.sets)
-    × Index l.table l.index
-    × (l.range.lowest ≤ 1000)
-    × (l.range.highest ≤ 1000)
-    × ((ts : List Term) (cut : ℕ) → Gathered l.heading l.notes (note_count l.notes) ts → NearOf (table_in l.table) cut l.near l.heading
-    → PackedTo (table_in l.table) cut ts l.k l.initial.sets l.sets l.formed l.range.lowest l.range.highest)
+    × Index l.table.file.now l.index
+    × (l.degrees.lowest ≤ 1000)
+    × (l.degrees.highest ≤ 1000)
+    × ((ts : List Term) (cut : ℕ) → Gathered l.heading l.notes (note_count l.notes) ts → NearOf (table_of l.table) cut l.near l.heading
+    → PackedTo (table_of l.table) cut ts l.k l.initial.sets l.sets l.formed l.degrees.lowest l.degrees.highest)
