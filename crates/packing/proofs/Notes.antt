@@ -9,6 +9,7 @@ use native.Mathlib.Omega.{arith}
 use lib.ListN.{length, get_or, take, drop, length-drop}
 use lib.Seq.{take_all, drop-length, length-take-le, drop-drop}
 use borrow.Rule.Slice.PartMut.{put_mid, Post-is}
+use Rattle.std.specs.Prelude.{Some, unwrap_or}
 use Rattle.theory.specs.Tree.{Term}
 use Rattle.theory.specs.Table.{Table}
 use Rattle.theory.specs.Least.{least}
@@ -29,6 +30,7 @@ use Rattle.meaning.specs.Search.{symbol_worth}
 use Rattle.meaning.specs.Over.{over}
 use Rattle.meaning.proofs.Sound.{sound}
 use Rattle.near.specs.Near.{near_words, NearSets}
+use Rattle.terms.specs.declared.asked.Asked.{Asked}
 use Rattle.facing.specs.Faced.{ClearBy}
 use Rattle.facing.specs.Gathering.{GatheredBy}
 use Rattle.facing.proofs.Faced.{faced_in, gathered_in}
@@ -64,15 +66,15 @@ module _ (out : List ℕ) (at : ℕ) (inside : at ≤ length out) where
 -- LAW: once it is packed, and noted
 pub noted_next : {T : Table} {cut : ℕ} {ts : List Term} {v first : ℕ} {search after : Search} {found : Found} {spans spans' sets part sets' : List ℕ}
     → set_words_lem * search.packed ≤ length sets
-    → PackedTo T cut ts (positions ts) (take (length sets - set_words_lem * search.packed) (drop (set_words_lem * search.packed) sets)) part found.formed found.lowest found.highest
+    → PackedTo T cut ts (positions ts) (take (length sets - set_words_lem * search.packed) (drop (set_words_lem * search.packed) sets)) part found.formed found.degrees.lowest found.degrees.highest
     → sets' ≡ put_mid (set_words_lem * search.packed) (length sets - set_words_lem * search.packed) sets part → positions ts ≡ first
     → VariableNoted v first search found after spans spans' → PackedNext T cut ts v search after spans spans' sets sets'
 noted_next {T} {cut} {ts} {v} {search = search} {spans = spans} {sets = sets} room p laid is noted =
     record {
       packed = noted.packed ∙ ap (λ n. search.packed + n) (inv is);
-      lacking = noted.lacking ∙ ap (λ b. cond b search.lacking (min search.lacking v)) p.forms;
-      lowest = noted.lowest ∙ ap (min search.lowest) p.at-worst;
-      highest = noted.highest ∙ ap (min search.highest) p.at_best;
+      lacking = noted.lacking ∙ ap (λ b. cond b search.lacking (Some (min (unwrap_or search.lacking v) v))) p.forms;
+      lowest = noted.lowest ∙ ap (min search.degrees.lowest) p.at-worst;
+      highest = noted.highest ∙ ap (min search.degrees.highest) p.at_best;
       span = noted.span ∙ numbers (inv is) p.at-worst p.at_best;
       words = laid
           ∙ ap (put_mid at (length sets - at) sets) (p.words ∙ ap (λ l. over l 0 packed) (rest_lent sets at room))
@@ -90,6 +92,20 @@ noted_next {T} {cut} {ts} {v} {search = search} {spans = spans} {sets = sets} ro
     numbers a b c = cc
 
 -- ---- the notes of all
+
+-- LAW: what is asked of a match, where nothing clashes
+pub packable_asked : (asked : Asked) {degree : ℕ} {notes : List ℕ} → ClearBy asked.table.file.now asked.cut asked.pattern.now asked.heading.now degree notes
+    → Packable asked.table.file.now asked.pattern.now asked.heading.now asked.cut notes
+packable_asked asked c =
+    record {
+      sound = asked.table.sound;
+      pattern_reads = asked.pattern_reads;
+      heading_reads = asked.heading_reads;
+      positive = asked.some_cut;
+      top = asked.top_cut;
+      clear = c.clear;
+      noted = c.noted;
+    }
 
 module _ {table pattern heading : List ℕ} {cut : ℕ} {notes : List ℕ} (k : Packable table pattern heading cut notes) where
   pub reads : Readable (table_in table) pattern heading
@@ -155,7 +171,7 @@ module _ {table pattern heading : List ℕ} {cut : ℕ} {notes : List ℕ} (k : 
           go (t ∷ ts) h l = omega (arith, h.count)
 
       -- LAW: with these notes the variable can be packed, and has as many positions as the first subterm has nodes
-      pub own_notes : OwnNotes table near heading part
+      pub own_notes : OwnNotes (table_in table) near heading part
       own_notes =
           record { covers = covers; symbols = symbols; few = short; within = λ o l. (gathered_own.each o l).inside; some = some_notes }
 

@@ -6,7 +6,10 @@ use mathlib.Core.Bool.{Bool, true, false, not, cond}
 use Prim.Native.Nat.{ℕ, ◌+◌, ◌*◌, ◌≤◌, ◌<◌, min}
 use native.Mathlib.Nat.{zero-add}
 use native.Mathlib.Omega.{arith}
+use lib.Dec.{ltb}
 use lib.ListN.{length}
+use borrow.Author.Tests.{lt-ltb, ltb-false}
+use Rattle.std.specs.Prelude.{Some, None, unwrap_or}
 use Rattle.theory.specs.Table.{Table}
 use Rattle.theory.specs.Least.{least}
 use Rattle.theory.specs.Faces.{Face, facing}
@@ -23,23 +26,31 @@ use Rattle.meaning.proofs.Over.{over_none, over_next}
 use Rattle.meaning.proofs.Packing.{one}
 use Rattle.meaning.proofs.Rated.{least_last, least-brings}
 use Rattle.meaning.proofs.Words.{words_append, sets_last, words_many}
-use Rattle.packing.specs.Pack.{PackedNext, PackedAll}
+use Rattle.packing.specs.Pack.{lacking_of, PackedNext, PackedAll}
 use Rattle.packing.specs.declared.Search.{Search}
 use Rattle.packing.proofs.Spans.{spans_in, spans_none, spans_next, spans_all}
 
 -- The variables vs are packed: n zeros stand behind the spans, and the sets lie over the buffer `before`.
 pub record Searched (T : Table) (cut : ℕ) (fs : List Face) (vs : List ℕ) (n : ℕ) (before : List ℕ) (search : Search) (spans sets : List ℕ) : Type 0 where
   pub many : search.packed ≡ sum (count_of fs) vs
-  pub lacks : search.lacking ≡ worst (unformed T cut fs) vs
-  pub low : search.lowest ≡ min (least (symbol_worth T) fs) (least (λ v. lowest_for T cut (facing v fs)) vs)
-  pub high : search.highest ≡ min (least (symbol_worth T) fs) (least (λ v. highest_for T cut (facing v fs)) vs)
+  pub lacks : search.lacking ≡ lacking_of (worst (unformed T cut fs) vs)
+  pub low : search.degrees.lowest ≡ min (least (symbol_worth T) fs) (least (λ v. lowest_for T cut (facing v fs)) vs)
+  pub high : search.degrees.highest ≡ min (least (symbol_worth T) fs) (least (λ v. highest_for T cut (facing v fs)) vs)
   pub spanned : spans ≡ spans_in T cut fs vs ++ zeros n
   pub words : sets ≡ over before 0 (all_words_lem (sets_of T cut fs vs))
+
+-- one variable more that lacks a form
+lacks_too : (n v : ℕ) → v < variable_count → Some (min (unwrap_or (lacking_of n) v) v) ≡ lacking_of (min n v)
+lacks_too n v l = go (ltb n variable_count) refl
+  where
+    go : (b : Bool) → ltb n variable_count ≡ b → Some (min (unwrap_or (cond b (Some n) None) v) v) ≡ lacking_of (min n v)
+    go true e = rw (lt-ltb (min n v) variable_count (omega arith))
+    go false e = let past = ltb-false n variable_count e in rw (lt-ltb (min n v) variable_count (omega arith)) (ap Some (omega (arith, past)))
 
 module _ (T : Table) (cut : ℕ) (fs : List Face) (n : ℕ) (before : List ℕ) where
   -- LAW: none is packed
   pub searched_none : (base : ℕ) {spans : List ℕ} → base ≡ least (symbol_worth T) fs → spans ≡ zeros (span_width * variable_count + n)
-      → Searched T cut fs [] n before (record { packed = 0; lacking = variable_count; lowest = base; highest = base }) spans before
+      → Searched T cut fs [] n before (record { packed = 0; lacking = None; degrees = record { lowest = base; highest = base } }) spans before
   searched_none base e z =
       record {
         many = refl;
@@ -77,9 +88,12 @@ module _ (T : Table) (cut : ℕ) (fs : List Face) (n : ℕ) (before : List ℕ) 
       behind : packed ++ added ≡ all_words_lem (sets_of T cut fs (vs ++ (v ∷ [])))
       behind = inv (words_append (sets_of T cut fs vs) (through (count_of fs v) (one T cut fs v))) ∙ ap all_words_lem (inv (sets_last T cut fs vs v))
 
-      lacking : (b : Bool) → formed T cut (facing v fs) ≡ b → cond b search.lacking (min search.lacking v) ≡ worst (unformed T cut fs) (vs ++ (v ∷ []))
-      lacking true e = h.lacks ∙ inv (worst_good (unformed T cut fs) vs v (ap not e))
-      lacking false e = ap (λ n. min n v) h.lacks ∙ inv (worst_bad (unformed T cut fs) vs v (ap not e))
+      lacking : (b : Bool) → formed T cut (facing v fs) ≡ b → cond b search.lacking (Some (min (unwrap_or search.lacking v) v)) ≡ lacking_of (worst (unformed T cut fs) (vs ++ (v ∷ [])))
+      lacking true e = h.lacks ∙ ap lacking_of (inv (worst_good (unformed T cut fs) vs v (ap not e)))
+      lacking false e =
+          ap (λ o. Some (min (unwrap_or o v) v)) h.lacks
+          ∙ lacks_too (worst (unformed T cut fs) vs) v l
+          ∙ ap lacking_of (inv (worst_bad (unformed T cut fs) vs v (ap not e)))
 
   -- LAW: all are packed
   pub searched_all : {search : Search} {spans sets : List ℕ} → Searched T cut fs (order fs) n before search spans sets → PackedAll T cut fs search spans before sets

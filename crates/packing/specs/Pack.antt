@@ -1,5 +1,5 @@
 -- What packing the variables of a pattern comes to.
-use Rattle.std.specs.Prelude.{◌≡◌, List, [], ◌∷◌, ◌++◌, true, false, cond, ℕ, ◌+◌, ◌-◌, ◌*◌, ◌≤◌, ◌<◌, min, length, get_or}
+use Rattle.std.specs.Prelude.{◌≡◌, List, [], ◌∷◌, ◌++◌, true, false, cond, ltb, ℕ, ◌+◌, ◌-◌, ◌*◌, ◌≤◌, ◌<◌, min, Option, Some, None, unwrap_or, length, get_or}
 use Rattle.std.proofs.Math.Option.{none}
 use Rattle.theory.specs.Tree.{Term}
 use Rattle.theory.specs.Table.{Table}
@@ -18,6 +18,10 @@ use Rattle.near.specs.Near.{near_words, NearSets}
 use Rattle.variable.specs.declared.Found.{Found}
 use Rattle.packing.specs.declared.Search.{Search}
 
+-- The least variable without a form, where the worst of them is this: none where each has one.
+abbrev pub lacking_of : ℕ → Option ℕ
+lacking_of n = cond (ltb n variable_count) (Some n) None
+
 -- What packing starts from: the lists are read whole over the table, nothing clashes, and it is noted where the subterms stand that face the
 -- pattern's variables.
 pub record Packable (table pattern heading : List ℕ) (cut : ℕ) (notes : List ℕ) : Type 0 where
@@ -34,12 +38,6 @@ pub record NearWhere (table pattern heading : List ℕ) (cut : ℕ) (near : List
   pub room : near_words * (table_in table).size ≤ length near
   pub gathered : (i : ℕ) → i < length pattern → 32768 ≤ get_or pattern i 0 → NearSets (table_in table) cut heading near
 
--- All that at some cut.
-pub record PackableAt (table pattern heading near notes : List ℕ) : Type 0 where
-  pub cut : ℕ
-  pub packable : Packable table pattern heading cut notes
-  pub gathered : NearWhere table pattern heading cut near
-
 -- The lists that are lent are long enough.
 pub record Room (pattern heading notes own spans sets : List ℕ) : Type 0 where
   pub of_notes : 2 * length pattern ≤ length notes
@@ -51,26 +49,26 @@ pub record Room (pattern heading notes own spans sets : List ℕ) : Type 0 where
 -- later ones.
 pub record VariableNoted (v positions : ℕ) (before : Search) (found : Found) (after : Search) (spans spans' : List ℕ) : Type 0 where
   pub packed : after.packed ≡ before.packed + positions
-  pub lacking : after.lacking ≡ cond found.formed before.lacking (min before.lacking v)
-  pub lowest : after.lowest ≡ min before.lowest found.lowest
-  pub highest : after.highest ≡ min before.highest found.highest
-  pub span : spans' ≡ over spans (span_width * v) (before.packed ∷ positions ∷ found.lowest ∷ found.highest ∷ [])
+  pub lacking : after.lacking ≡ cond found.formed before.lacking (Some (min (unwrap_or before.lacking v) v))
+  pub lowest : after.degrees.lowest ≡ min before.degrees.lowest found.degrees.lowest
+  pub highest : after.degrees.highest ≡ min before.degrees.highest found.degrees.highest
+  pub span : spans' ≡ over spans (span_width * v) (before.packed ∷ positions ∷ found.degrees.lowest ∷ found.degrees.highest ∷ [])
 
 -- Variable v, which the terms ts face, is packed, behind all that was packed before. The primed buffers are the later ones.
 pub record PackedNext (T : Table) (cut : ℕ) (ts : List Term) (v : ℕ) (before after : Search) (spans spans' sets sets' : List ℕ) : Type 0 where
   pub packed : after.packed ≡ before.packed + positions ts
-  pub lacking : after.lacking ≡ cond (formed T cut ts) before.lacking (min before.lacking v)
-  pub lowest : after.lowest ≡ min before.lowest (lowest_for T cut ts)
-  pub highest : after.highest ≡ min before.highest (highest_for T cut ts)
+  pub lacking : after.lacking ≡ cond (formed T cut ts) before.lacking (Some (min (unwrap_or before.lacking v) v))
+  pub lowest : after.degrees.lowest ≡ min before.degrees.lowest (lowest_for T cut ts)
+  pub highest : after.degrees.highest ≡ min before.degrees.highest (highest_for T cut ts)
   pub span : spans' ≡ over spans (span_width * v) (before.packed ∷ positions ts ∷ lowest_for T cut ts ∷ highest_for T cut ts ∷ [])
   pub words : sets' ≡ over sets (set_words_lem * before.packed) (all_words_lem (through (positions ts) (λ k. in_set T cut ts k ∷ [])))
 
 -- All variables are packed, as the pattern has them. These are the spans later, and the sets before and later.
 pub record PackedAll (T : Table) (cut : ℕ) (fs : List Face) (r : Search) (spans sets sets' : List ℕ) : Type 0 where
   pub packed : r.packed ≡ packed_count fs
-  pub lacking : r.lacking ≡ worst (unformed T cut fs) (order fs)
-  pub lowest : r.lowest ≡ lowest_of_lem T cut fs
-  pub highest : r.highest ≡ highest_of T cut fs
+  pub lacking : r.lacking ≡ lacking_of (worst (unformed T cut fs) (order fs))
+  pub lowest : r.degrees.lowest ≡ lowest_of_lem T cut fs
+  pub highest : r.degrees.highest ≡ highest_of T cut fs
   pub spans_are : spans ≡ packed_spans T cut fs ++ zeros (length spans - length (packed_spans T cut fs))
   pub sets_are : sets' ≡ over sets 0 (packed_sets T cut fs)
 

@@ -2,47 +2,55 @@
 #![tactic(auto)]
 
 ghost use Rattle.std.specs.Prelude.{◌≡◌, [], ◌∷◌, ◌+◌, ◌*◌, ◌≤◌, length};
-ghost use Rattle.theory.specs.Least.{least as leastOf};
 ghost use Rattle.meaning.specs.Limits.{span_width};
-ghost use Rattle.meaning.specs.File.{table_in};
-ghost use Rattle.meaning.specs.Calls.{zeros, faces_in};
-ghost use Rattle.meaning.specs.Search.{symbol_worth};
+ghost use Rattle.meaning.specs.Calls.{zeros};
 ghost use Rattle.meaning.specs.Over.{over};
 ghost use Rattle.wide.specs.Index.{Index};
-ghost use Rattle.packing.specs.Pack.{PackableAt, Room, VariableNoted, PackedAt};
+ghost use Rattle.facing.specs.Faced.{ClearBy};
+ghost use Rattle.packing.specs.Pack.{NearWhere, Room, VariableNoted, PackedAt};
 
-use degrees::lesser;
 use facing::gather::gather;
 use facing::notes::note_at;
+use refusal::Degrees;
 use sets::SymbolSet;
-use table::read::symbol_count;
+use terms::asked::Asked;
 use terms::kind::{Kind, kind_of};
 use variable::{Found, pack_variable};
 
-// How many numbers a variable's span has.
-const SPAN: usize = 4;
+// What is noted of a variable.
+#[derive(Clone, Copy)]
+struct Span {
+    // its first position, and how many it has
+    first: u16,
+    positions: u16,
+    // its own degrees
+    degrees: Degrees,
+}
+
+impl Span {
+    // How many numbers it is written in.
+    const WIDTH: usize = 4;
+
+    // Writes it as that of variable v.
+    fn put(self, spans: &mut [u16], v: u16)
+        requires { span_width * (v + 1) ≤ length spans.old }
+        ensures { spans.new ≡ over spans.old (span_width * v) (self.first ∷ self.positions ∷ self.degrees.lowest ∷ self.degrees.highest ∷ []) }
+    {
+        let at = Span::WIDTH * v as usize;
+        let degrees = self.degrees;
+        let numbers = [self.first, self.positions, degrees.lowest, degrees.highest];
+        spans[at..at + Span::WIDTH].copy_from_slice(&numbers);
+    }
+}
 
 #[derive(Clone, Copy)]
 pub struct Search {
     // how many positions are packed
     pub packed: usize,
-    // the least variable without a form, 32 if each has one
-    pub lacking: u16,
+    // the least variable without a form
+    pub lacking: Option<u16>,
     // the least of the symbols' degrees and of the variables' own, at worst and at best
-    pub lowest: u16,
-    pub highest: u16,
-}
-
-// Notes variable v's span: its first position, how many positions it has, its own lowest and its own highest degree.
-fn put_span(spans: &mut [u16], v: u16, first: u16, positions: u16, lowest: u16, highest: u16)
-    requires { span_width * (v + 1) ≤ length spans.old }
-    ensures { spans.new ≡ over spans.old (span_width * v) (first ∷ positions ∷ lowest ∷ highest ∷ []) }
-{
-    let at = SPAN * v as usize;
-    spans[at] = first;
-    spans[at + 1] = positions;
-    spans[at + 2] = lowest;
-    spans[at + 3] = highest;
+    pub degrees: Degrees,
 }
 
 // Notes what came of variable v, which has so many positions: in its span, and beside what the variables before it brought.
@@ -50,35 +58,29 @@ fn note_variable(spans: &mut [u16], v: u16, positions: u16, search: Search, foun
     requires { (span_width * (v + 1) ≤ length spans.old) × (search.packed + positions ≤ 1024) }
     ensures { VariableNoted v positions search found result spans.old spans.new }
 {
-    let first = search.packed;
-    put_span(
-        spans,
-        v,
-        first as u16,
+    let span = Span {
+        first: search.packed as u16,
         positions,
-        found.lowest,
-        found.highest,
-    );
+        degrees: found.degrees,
+    };
+    span.put(spans, v);
     let lacking = if found.formed {
         search.lacking
     } else {
-        lesser(search.lacking, v)
+        Some(search.lacking.unwrap_or(v).min(v))
     };
-    let lowest = lesser(search.lowest, found.lowest);
-    let highest = lesser(search.highest, found.highest);
+    let lowest = search.degrees.lowest.min(found.degrees.lowest);
+    let highest = search.degrees.highest.min(found.degrees.highest);
     Search {
-        packed: first + positions as usize,
+        packed: search.packed + positions as usize,
         lacking,
-        lowest,
-        highest,
+        degrees: Degrees { lowest, highest },
     }
 }
 
 // Packs every variable of the pattern, each where it is first met. `own` is lent for the notes of one variable at a time.
 pub fn pack(
-    table: &[u8],
-    pattern: &[u16],
-    heading: &[u16],
+    asked: Asked,
     near: &[u64],
     index: &mut [u16],
     notes: &[u16],
@@ -87,39 +89,39 @@ pub fn pack(
     spans: &mut [u16],
     sets: &mut [u64],
 ) -> Search
-    requires index { Index table.now index.old × Room pattern.now heading.now notes.now own.old spans.old sets.old }
-    requires least_value { least ≡ leastOf (symbol_worth (table_in table.now)) (faces_in table.now pattern.now heading.now) }
+    requires index { Index asked.table.file.now index.old × Room asked.pattern.now asked.heading.now notes.now own.old spans.old sets.old }
+    requires clear { ClearBy asked.table.file.now asked.cut asked.pattern.now asked.heading.now least notes.now }
+    requires gathered { NearWhere asked.table.file.now asked.pattern.now asked.heading.now asked.cut near.now }
     requires spans_value { spans.old ≡ zeros (length spans.old) }
-    requires packable_at { PackableAt table.now pattern.now heading.now near.now notes.now }
-    ensures { PackedAt table.now pattern.now heading.now near.now notes.now result spans.new sets.old sets.new }
+    ensures { PackedAt asked.entry.table.file.now asked.entry.pattern.now asked.entry.heading.now near.now notes.now result spans.new sets.old sets.new }
 {
-    let symbols = symbol_count(table);
+    let table = asked.table;
     let mut search = Search {
         packed: 0,
-        lacking: 32,
-        lowest: least,
-        highest: least,
+        lacking: None,
+        degrees: Degrees {
+            lowest: least,
+            highest: least,
+        },
     };
-    for i in 0..pattern.len() {
-        match kind_of(symbols, pattern[i]) {
-            Kind::Variable(v) => {
-                // a variable that was met before has a span, with one position at least
-                if spans[SPAN * v as usize + 1] == 0 {
-                    let end = 2 * gather(pattern, notes, v, own);
-                    let positions = note_at(&own[..end], 0).size;
-                    let from = SymbolSet::WORDS * search.packed;
-                    let found = pack_variable(
-                        table,
-                        near,
-                        index,
-                        heading,
-                        &own[..end],
-                        &mut sets[from..],
-                    );
-                    search = note_variable(spans, v, positions, search, found);
-                }
+    for node in asked.pattern {
+        if let Kind::Variable(v) = kind_of(table.symbols, *node) {
+            // a variable that was met before has a span, with one position at least
+            if spans[Span::WIDTH * v as usize + 1] == 0 {
+                let end = 2 * gather(asked.pattern, notes, v, own);
+                let own = &own[..end];
+                let positions = note_at(own, 0).size;
+                let from = SymbolSet::WORDS * search.packed;
+                let found = pack_variable(
+                    table,
+                    near,
+                    index,
+                    asked.heading,
+                    own,
+                    &mut sets[from..],
+                );
+                search = note_variable(spans, v, positions, search, found);
             }
-            _ => {}
         }
     }
     search

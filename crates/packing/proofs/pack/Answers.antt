@@ -6,161 +6,130 @@ use mathlib.Core.List.{List}
 use Prim.Native.Nat.{ℕ, ◌+◌, ◌-◌, ◌*◌, ◌≤◌, ◌<◌}
 use native.Mathlib.Omega.{arith}
 use lib.ListN.{length, get_or, take}
-use lib.Seq.{length-take-le}
+use Rattle.theory.specs.Table.{Table}
 use Rattle.theory.specs.Stands.{size_of}
 use Rattle.meaning.specs.Limits.{set_words_lem, variable_count, span_width}
 use Rattle.meaning.specs.File.{table_in}
 use Rattle.meaning.specs.Calls.{zeros, faces_in}
+use Rattle.table.specs.declared.sound_table.SoundTable.{SoundTable}
 use Rattle.near.specs.Near.{NearSets}
 use Rattle.facing.specs.Gathering.{GatheredBy}
 use Rattle.terms.specs.Kinds.{kind_of}
+use Rattle.terms.specs.declared.kind.Kind.{Kind}
 use Rattle.terms.specs.declared.kind.Kind.TheVariants.{Variable}
 use Rattle.terms.proofs.Nodes.{variable_kind}
-use Rattle.packing.specs.Pack.{NearWhere, PackableAt}
+use Rattle.packing.specs.Pack.{Packable, NearWhere}
 use Rattle.variable.specs.Variable.{OwnNotes}
 use Rattle.variable.proofs.Positions.{positions-first}
-use Rattle.packing.proofs.Notes.{rest_long, noted_next, near_of, gathered_own, own_notes, own_first}
+use Rattle.packing.proofs.Notes.{rest_long, noted_next, packable_asked, near_of, gathered_own, own_notes, own_first}
 use Rattle.packing.proofs.Searching.{searched_none}
 use Rattle.packing.proofs.Meeting.{NewAt, along_all, along_other, along_met, new_at, along_new}
 use Rattle.packing.proofs.pack.Goals as goal
-use Rattle.packing.proofs.pack.Goals.{After-gather-end, Then-spans-v-eq0, in-Variable+then-spans-v-eq0, in-Variable+else-spans-v-eq0, in_default}
+use Rattle.packing.proofs.pack.Goals.{After-gather-end, in-Variable+then-spans-v-eq0, in-Variable+else-spans-v-eq0, in_default}
 
 -- ---- at a node that is variable v
 
-module _ {table pattern heading near notes : List ℕ} (g : PackableAt table pattern heading near notes) {i v packed : ℕ} (l : i < length pattern)
-    (is : kind_of (table_in table).size (get_or pattern i 0) ≡ Variable v)
-    (new : NewAt (table_in table) (faces_in table pattern heading) (length heading) i v packed) where
-  -- the near sets are gathered
-  near_here : (cut : ℕ) → NearWhere table pattern heading cut near → NearSets (table_in table) cut heading near
-  near_here cut w = w.gathered i l (omega (arith, (variable_kind _ _ _ is).0))
+-- the node's kind, over as many symbols as the table has
+kind_is : (t : SoundTable) (node : ℕ) {found : Kind} → found ≡ kind_of t.symbols node → kind_of (table_in t.file.now).size node ≡ found
+kind_is t node e = ap (λ s. kind_of s node) (inv t.symbols_are) ∙ inv e
 
-  module _ {count : ℕ} {own : List ℕ} (gathered : GatheredBy pattern notes v count own) (enough : 2 * count ≤ length own) where
-    -- the gathered notes are enough to pack the variable, and the first of them tells how many positions it has
-    notes_here : OwnNotes table near heading (take (2 * count) own)
-    notes_here = own_notes g.packable g.gathered.room (near_here g.cut g.gathered) gathered new.some enough
+-- the near sets are gathered
+near_here : {table pattern heading near : List ℕ} {cut i v : ℕ} → NearWhere table pattern heading cut near → i < length pattern
+    → kind_of (table_in table).size (get_or pattern i 0) ≡ Variable v → NearSets (table_in table) cut heading near
+near_here w l is = w.gathered _ l (omega (arith, (variable_kind _ _ _ is).0))
 
-    -- .. and its sets fit behind what is packed
-    fits_here : packed + size_of (take (2 * count) own) 0 ≤ length heading
-    fits_here =
-        let first = own_first g.packable g.gathered.room (near_here g.cut g.gathered) gathered new.some enough in
-        omega (arith, new.fits, first)
+-- the notes of a variable are enough to pack it, and its sets fit behind what is packed
+record OwnFit (T : Table) (near heading : List ℕ) (packed : ℕ) (own : List ℕ) : Type 0 where
+  own_are : OwnNotes T near heading own
+  fits : packed + size_of own 0 ≤ length heading
 
--- ---- the node at which a turn stands
+own_fit : {table pattern heading near notes own : List ℕ} {cut i v packed count : ℕ} → Packable table pattern heading cut notes → NearWhere table pattern heading cut near
+    → i < length pattern → kind_of (table_in table).size (get_or pattern i 0) ≡ Variable v
+    → NewAt (table_in table) (faces_in table pattern heading) (length heading) i v packed → GatheredBy pattern notes v count own → 2 * count ≤ length own
+    → OwnFit (table_in table) near heading packed (take (2 * count) own)
+own_fit k w l is new g enough =
+    let sets = near_here w l is in
+    let first = own_first k w.room sets g new.some enough in
+    record { own_are = own_notes k w.room sets g new.some enough; fits = omega (arith, new.fits, first) }
 
--- variable v stands there for the first time
-module _ (c : goal.Then-spans-v-eq0) where
-  kind_here : kind_of (table_in c.args.table.now).size (get_or c.args.pattern.now c.loop-i.i 0) ≡ Variable c.in-Variable.v
-  kind_here =
-      inv (c.kind_of.ensures ∙ ap (λ s. kind_of s (get_or c.args.pattern.now c.loop-i.i 0)) c.symbol_count-symbols.ensures.0) ∙ c.in-Variable.is
-
-  new_here : NewAt (table_in c.args.table.now) (faces_in c.args.table.now c.args.pattern.now c.args.heading.now) (length c.args.heading.now) c.loop-i.i c.in-Variable.v c.loop-i.search.packed
+-- variable v stands there for the first time, and its notes are gathered
+module _ (c : goal.After-gather-end) where
+  new_here : OwnFit (table_in c.args.asked.table.file.now) c.args.near.now c.args.asked.heading.now c.loop-node.search.packed (take (2 * c.gather-end.result) c.gather-end.new.own)
   new_here =
-      let g = c.requires.packable_at in
-      new_at g.packable (c.loop-i.invariant.6 g.cut g.packable g.gathered) c.loop-i-test.true kind_here c.if-spans-v-eq0.true
+      let a = c.args.asked in
+      let packs = packable_asked a c.requires.clear in
+      let kind = kind_is a.table (get_or a.pattern.now c.loop-node.node-index 0) c.kind_of.ensures ∙ c.in-Variable.is in
+      let new = new_at packs (c.loop-node.invariant.6 a.cut packs c.requires.gathered) c.loop-node-test.true kind c.if-spans-v-eq0.true in
+      own_fit packs c.requires.gathered c.loop-node-test.true kind new c.gather-end.ensures (omega (arith, c.gather-end.ensures.few, c.requires.index.1.of_own, c.loop-node.invariant.2, c.gather-end.auto.own))
 
-pub symbol_count-symbols-requires : goal.symbol_count-symbols-requires
-symbol_count-symbols-requires c = c.requires.packable_at.packable.sound
+  few_here : c.loop-node.search.packed + size_of (take (2 * c.gather-end.result) c.gather-end.new.own) 0 ≤ 1024
+  few_here = omega (arith, new_here.fits, new_here.own_are.few)
 
-pub loop-i-init : goal.loop-i-init
-loop-i-init c =
+  room_here : set_words_lem * (c.loop-node.search.packed + size_of (take (2 * c.gather-end.result) c.gather-end.new.own) 0) ≤ length c.loop-node.sets
+  room_here = omega (arith, new_here.fits, c.requires.index.1.of_sets, c.loop-node.invariant.4)
+
+pub loop-node-init : goal.loop-node-init
+loop-node-init c =
     let all = length c.args.spans.now in
     let n : all ≡ span_width * variable_count + (all - span_width * variable_count) = omega (arith, c.requires.index.1.of_spans) in
-    (omega arith, refl, refl, refl, refl, c.requires.index.0, λ cut k w. searched_none _ _ _ _ _ _ c.requires.least_value (c.requires.spans_value ∙ ap zeros n))
+    (omega arith, refl, refl, refl, refl, c.requires.index.0, λ cut k w. searched_none _ _ _ _ _ _ c.requires.clear.lowest (c.requires.spans_value ∙ ap zeros n))
+
+-- the variable is one that a span has room for
+below : (t : SoundTable) (node v : ℕ) {found : Kind} → found ≡ kind_of t.symbols node → found ≡ Variable v → v < variable_count
+below t node v e is = (variable_kind _ _ _ (kind_is t node e ∙ is)).1
 
 pub bounds-spans-v : goal.bounds-spans-v
 bounds-spans-v c =
-    let kind = inv (c.kind_of.ensures ∙ ap (λ s. kind_of s (get_or c.args.pattern.now c.loop-i.i 0)) c.symbol_count-symbols.ensures.0) ∙ c.in-Variable.is in
-    omega (arith, (variable_kind _ _ _ kind).1, c.requires.index.1.of_spans, c.loop-i.invariant.3)
-
--- as many notes as are gathered have room
-enough : (c : goal.After-gather-end) → 2 * c.gather-end.result ≤ length c.gather-end.new.own
-enough c = omega (arith, c.gather-end.ensures.few, c.requires.index.1.of_own, c.loop-i.invariant.2, c.gather-end.auto.own)
+    omega (arith, below c.args.asked.table _ _ c.kind_of.ensures c.in-Variable.is, c.requires.index.1.of_spans, c.loop-node.invariant.3)
 
 pub gather-end-requires : goal.gather-end-requires
 gather-end-requires c =
-    let t = (goal.at.gather-end-requires c).Then-spans-v-eq0 in
     let room = c.requires.index.1 in
-    ((new_here t).below, room.of_notes, omega (arith, room.of_own, c.loop-i.invariant.2))
-
-pub slice_bounds-note_at-end : goal.slice_bounds-note_at-end
-slice_bounds-note_at-end c = enough (goal.at.slice_bounds-note_at-end c).After-gather-end
-
-pub slice_bounds-pack_variable-end : goal.slice_bounds-pack_variable-end
-slice_bounds-pack_variable-end c = enough (goal.at.slice_bounds-pack_variable-end c).After-gather-end
-
-pub slice_bounds-note_at-end-then-spans-v-eq0 : goal.slice_bounds-note_at-end-then-spans-v-eq0
-slice_bounds-note_at-end-then-spans-v-eq0 c = inv (length-take-le _ _ (enough (goal.at.slice_bounds-note_at-end-then-spans-v-eq0 c).After-gather-end))
-
-pub slice_bounds-pack_variable-end-then-spans-v-eq0 : goal.slice_bounds-pack_variable-end-then-spans-v-eq0
-slice_bounds-pack_variable-end-then-spans-v-eq0 c = inv (length-take-le _ _ (enough (goal.at.slice_bounds-pack_variable-end-then-spans-v-eq0 c).After-gather-end))
+    (below c.args.asked.table _ _ c.kind_of.ensures c.in-Variable.is, room.of_notes, omega (arith, room.of_own, c.loop-node.invariant.2))
 
 pub note_at-positions-requires : goal.note_at-positions-requires
-note_at-positions-requires c =
-    let t = (goal.at.note_at-positions-requires c).Then-spans-v-eq0 in
-    let e = enough (goal.at.note_at-positions-requires c).After-gather-end in
-    omega (arith, (notes_here c.requires.packable_at c.loop-i-test.true (kind_here t) (new_here t) c.gather-end.ensures e).some)
+note_at-positions-requires c = omega (arith, (new_here (goal.at.note_at-positions-requires c).After-gather-end).own_are.some)
 
 pub overflow_mul-from : goal.overflow_mul-from
-overflow_mul-from c =
-    let t = (goal.at.overflow_mul-from c).Then-spans-v-eq0 in
-    let e = enough (goal.at.overflow_mul-from c).After-gather-end in
-    let fits = fits_here c.requires.packable_at c.loop-i-test.true (kind_here t) (new_here t) c.gather-end.ensures e in
-    omega (arith, fits, (notes_here c.requires.packable_at c.loop-i-test.true (kind_here t) (new_here t) c.gather-end.ensures e).few)
+overflow_mul-from c = omega (arith, few_here (goal.at.overflow_mul-from c).After-gather-end)
 
 pub offset_bounds-sets-from : goal.offset_bounds-sets-from
-offset_bounds-sets-from c =
-    let t = (goal.at.offset_bounds-sets-from c).Then-spans-v-eq0 in
-    let e = enough (goal.at.offset_bounds-sets-from c).After-gather-end in
-    let fits = fits_here c.requires.packable_at c.loop-i-test.true (kind_here t) (new_here t) c.gather-end.ensures e in
-    omega (arith, fits, (notes_here c.requires.packable_at c.loop-i-test.true (kind_here t) (new_here t) c.gather-end.ensures e).few)
+offset_bounds-sets-from c = omega (arith, few_here (goal.at.offset_bounds-sets-from c).After-gather-end)
 
 pub slice_bounds-pack_variable-count : goal.slice_bounds-pack_variable-count
-slice_bounds-pack_variable-count c =
-    let t = (goal.at.slice_bounds-pack_variable-count c).Then-spans-v-eq0 in
-    let e = enough (goal.at.slice_bounds-pack_variable-count c).After-gather-end in
-    let fits = fits_here c.requires.packable_at c.loop-i-test.true (kind_here t) (new_here t) c.gather-end.ensures e in
-    omega (arith, fits, c.requires.index.1.of_sets, c.loop-i.invariant.4)
+slice_bounds-pack_variable-count c = omega (arith, room_here (goal.at.slice_bounds-pack_variable-count c).After-gather-end)
 
 pub slice_bounds-pack_variable-start : goal.slice_bounds-pack_variable-start
-slice_bounds-pack_variable-start c =
-    let t = (goal.at.slice_bounds-pack_variable-start c).Then-spans-v-eq0 in
-    let e = enough (goal.at.slice_bounds-pack_variable-start c).After-gather-end in
-    let fits = fits_here c.requires.packable_at c.loop-i-test.true (kind_here t) (new_here t) c.gather-end.ensures e in
-    omega (arith, fits, c.requires.index.1.of_sets, c.loop-i.invariant.4)
+slice_bounds-pack_variable-start c = omega (arith, room_here (goal.at.slice_bounds-pack_variable-start c).After-gather-end)
 
 pub pack_variable-found-requires : goal.pack_variable-found-requires
 pack_variable-found-requires c =
-    let t = (goal.at.pack_variable-found-requires c).Then-spans-v-eq0 in
-    let e = enough (goal.at.pack_variable-found-requires c).After-gather-end in
-    let fits = fits_here c.requires.packable_at c.loop-i-test.true (kind_here t) (new_here t) c.gather-end.ensures e in
-    let rest = rest_long c.loop-i.sets (set_words_lem * c.loop-i.search.packed) (omega (arith, fits, c.requires.index.1.of_sets, c.loop-i.invariant.4)) in
-    record {
-      sound_file = (c.requires.packable_at.packable.sound, c.loop-i.invariant.5, notes_here c.requires.packable_at c.loop-i-test.true (kind_here t) (new_here t) c.gather-end.ensures e);
-      notes_in_bounds = omega (arith, fits, rest, c.requires.index.1.of_sets, c.loop-i.invariant.4);
-    }
+    let here = (goal.at.pack_variable-found-requires c).After-gather-end in
+    let rest = rest_long c.loop-node.sets (set_words_lem * c.loop-node.search.packed) (omega (arith, room_here here)) in
+    record { own_notes = (c.loop-node.invariant.5, (new_here here).own_are); notes_in_bounds = omega (arith, room_here here, rest) }
 
 pub note_variable-search-requires : goal.note_variable-search-requires
 note_variable-search-requires c =
-    let t = (goal.at.note_variable-search-requires c).Then-spans-v-eq0 in
-    let e = enough (goal.at.note_variable-search-requires c).After-gather-end in
-    let fits = fits_here c.requires.packable_at c.loop-i-test.true (kind_here t) (new_here t) c.gather-end.ensures e in (
-      omega (arith, c.requires.index.1.of_spans, c.loop-i.invariant.3, (new_here t).below),
-      omega (arith, fits, (notes_here c.requires.packable_at c.loop-i-test.true (kind_here t) (new_here t) c.gather-end.ensures e).few, c.note_at-positions.ensures.1),
+    let here = (goal.at.note_variable-search-requires c).After-gather-end in
+    let room = c.requires.index.1.of_spans in (
+      omega (arith, room, c.loop-node.invariant.3, below c.args.asked.table _ _ c.kind_of.ensures c.in-Variable.is),
+      omega (arith, few_here here, c.note_at-positions.ensures.1),
     )
 
-pub loop-i-preserved : goal.loop-i-preserved
-loop-i-preserved c =
-    let kept = c.loop-i.invariant in
-    let read = inv (c.kind_of.ensures ∙ ap (λ s. kind_of s (get_or c.args.pattern.now c.loop-i.i 0)) c.symbol_count-symbols.ensures.0) in
+pub loop-node-preserved : goal.loop-node-preserved
+loop-node-preserved c =
+    let kept = c.loop-node.invariant in
+    let a = c.args.asked in
+    let here = c.loop-node-test.true in
+    let read = kind_is a.table (get_or a.pattern.now c.loop-node.node-index 0) c.kind_of.ensures in
     elim c.match-kind_of.branch [
       | in-Variable+then-spans-v-eq0 w ↦
-          let g = c.requires.packable_at in
+          let packs = packable_asked a c.requires.clear in
           let kind = read ∙ w.in-Variable.is in
-          let new = new_at g.packable (kept.6 g.cut g.packable g.gathered) c.loop-i-test.true kind w.if-spans-v-eq0.true in
+          let new = new_at packs (kept.6 a.cut packs c.requires.gathered) here kind w.if-spans-v-eq0.true in
           let packed = w.pack_variable-found in
-          let enough_here : 2 * w.gather-end.result ≤ length w.gather-end.new.own = omega (arith, w.gather-end.ensures.few, c.requires.index.1.of_own, kept.2, w.gather-end.auto.own) in
-          let notes = notes_here g c.loop-i-test.true kind new w.gather-end.ensures enough_here in
-          let fits = fits_here g c.loop-i-test.true kind new w.gather-end.ensures enough_here in
+          let enough : 2 * w.gather-end.result ≤ length w.gather-end.new.own = omega (arith, w.gather-end.ensures.few, c.requires.index.1.of_own, kept.2, w.gather-end.auto.own) in
+          let fit = own_fit packs c.requires.gathered here kind new w.gather-end.ensures enough in
           rw (w.index-is, w.own-is, w.spans-is, w.sets-is, w.search-is) (
             omega arith,
             packed.auto.index ∙ kept.1,
@@ -169,19 +138,19 @@ loop-i-preserved c =
             search rules,
             packed.ensures.index,
             λ cut k near.
-                let sets = near_here g c.loop-i-test.true kind new cut near in
-                let own = gathered_own k near.room sets w.gather-end.ensures new.some enough_here in
-                let first = positions-first own notes.some ∙ inv w.note_at-positions.ensures.1 in
-                along_new k (kept.6 cut k near) c.loop-i-test.true new c.requires.index.1.of_sets
-                (noted_next (omega (arith, fits, c.requires.index.1.of_sets, kept.4)) (packed.ensures.variable_packed _ own cut (near_of k near.room sets)) refl first w.note_variable-search.ensures),
+                let sets = near_here near here kind in
+                let own = gathered_own k near.room sets w.gather-end.ensures new.some enough in
+                let first = positions-first own fit.own_are.some ∙ inv w.note_at-positions.ensures.1 in
+                along_new k (kept.6 cut k near) here new c.requires.index.1.of_sets
+                (noted_next (omega (arith, fit.fits, c.requires.index.1.of_sets, kept.4)) (packed.ensures.variable_packed _ own cut (near_of k near.room sets)) refl first w.note_variable-search.ensures),
           )
       | in-Variable+else-spans-v-eq0 w ↦
           rw (w.index-is, w.own-is, w.spans-is, w.sets-is, w.search-is)
-          (omega arith, kept.1, kept.2, kept.3, kept.4, kept.5, λ cut k near. along_met k (kept.6 cut k near) c.loop-i-test.true (read ∙ w.in-Variable.is) w.if-spans-v-eq0.false)
+          (omega arith, kept.1, kept.2, kept.3, kept.4, kept.5, λ cut k near. along_met k (kept.6 cut k near) here (read ∙ w.in-Variable.is) w.if-spans-v-eq0.false)
       | in_default w ↦
           rw (w.index-is, w.own-is, w.spans-is, w.sets-is, w.search-is)
-          (omega arith, kept.1, kept.2, kept.3, kept.4, kept.5, λ cut k near. along_other k (kept.6 cut k near) c.loop-i-test.true (λ v e. w.in_default.not-Variable v (inv read ∙ e)))
+          (omega arith, kept.1, kept.2, kept.3, kept.4, kept.5, λ cut k near. along_other k (kept.6 cut k near) here (λ v e. w.in_default.not-Variable v (inv read ∙ e)))
     ]
 
 pub returns : goal.returns
-returns c = λ cut k near. along_all k (c.loop-i.invariant.6 cut k near) c.loop-i-test.false
+returns c = λ cut k near. along_all k (c.loop-node.invariant.6 cut k near) c.loop-node-test.false

@@ -8,13 +8,13 @@ use Rattle.packing.specs.Pack.{Packable, NearWhere}
 use Rattle.packing.proofs.Meeting.{PackedAlong}
 use Rattle.packing.proofs.pack.Given as goal
 
-abbrev pub invariant-loop-i : goal.invariant-loop-i
-invariant-loop-i l =
-    (l.i ≤ length l.pattern)
+abbrev pub invariant-loop-node : goal.invariant-loop-node
+invariant-loop-node l =
+    (l.node-index ≤ length l.asked.pattern.now)
     × (length l.index ≡ length l.initial.index)
     × (length l.own ≡ length l.initial.own)
     × (length l.spans ≡ length l.initial.spans)
     × (length l.sets ≡ length l.initial.sets)
-    × Index l.table l.index
-    × ((cut : ℕ) → Packable l.table l.pattern l.heading cut l.notes → NearWhere l.table l.pattern l.heading cut l.near
-    → PackedAlong l.table l.pattern l.heading cut l.i (length l.initial.spans - span_width * variable_count) l.initial.sets l.search l.spans l.sets)
+    × Index l.asked.table.file.now l.index
+    × ((cut : ℕ) → Packable l.asked.table.file.now l.asked.pattern.now l.asked.heading.now cut l.notes → NearWhere l.asked.table.file.now l.asked.pattern.now l.asked.heading.now cut l.near
+    → PackedAlong l.asked.table.file.now l.asked.pattern.now l.asked.heading.now cut l.node-index (length l.initial.spans - span_width * variable_count) l.initial.sets l.search l.spans l.sets)
