@@ -23,8 +23,8 @@ fn least_degree(table: SoundTable, rows: &[u16], one: &[u16], two: &[u16]) -> u1
     ensures { result ≡ degree_of (table_in table.entry.file.now) one.now two.now }
 {
     let mut least: u16 = 1000;
-    for (a, b) in one.iter().zip(two) {
-        let here = degree_in_row(table, rows, *a, *b);
+    for (i, symbol) in one.iter().enumerate() {
+        let here = degree_in_row(table, rows, *symbol, two[i]);
         if here == 0 {
             return 0;
         }
