@@ -1,45 +1,48 @@
--- Two strings read byte by byte: what is left of both decides.
-use mathlib.Core.Path.{◌≡◌, refl, sym as inv, ap, ap₂, ◌∙◌}
+-- Two strings held against each other: the library's tests say what the meaning says of them, and where both have the same byte what is left decides.
+use mathlib.Core.Path.{◌≡◌, refl, sym as inv, ap, ap₂, subst, ◌∙◌}
 use mathlib.Core.List.{List, [], ◌∷◌}
-use mathlib.Core.Bool.{Bool, true, false, ◌&&◌}
-use Prim.Native.Nat.{ℕ, suc, ◌+◌, ◌≤◌, ◌<◌}
+use mathlib.Core.Bool.{Bool, true, ◌&&◌}
+use Prim.Native.Nat.{ℕ, ◌+◌, ◌<◌}
 use native.Mathlib.Omega.{arith}
-use borrow.Author.Tests.{lt-ltb, le-ltb, eq-eqb, ne_eqb}
+use borrow.Author.Tests.{lt-ltb, le-ltb, eq-eqb}
 use lib.Dec.{eqb}
-use lib.ListN.{length, get_or, drop, drop_of_length-le}
+use lib.ListN.{length, get_or, drop}
+use Rattle.std.proofs.Common.{Ordering, Less, Equal, Greater}
+use Rattle.std.specs.Ordering.{nat_cmp}
+use Rattle.std.specs.Cmp.Lexicographic.{slice_cmp, pointwise}
+use Rattle.std.specs.Prelude.{nat_eq}
+use Rattle.std.proofs.lemmas.Bool.Decides.{nat_tests}
 use Rattle.marc.specs.Known.{same}
 use Rattle.marc.specs.Order.{before}
 use Rattle.marc.proofs.Strings.{left_is}
 use Rattle.known_strings.specs.Compared.{ComparedAs}
-use Rattle.known_strings.specs.declared.compare.Order.{Order}
-use Rattle.known_strings.specs.declared.compare.Order.TheVariants.{Before, Same, After}
 
--- LAW: strings of unlike lengths are not the same
-pub unlike : (xs ys : List ℕ) → (length xs ≡ length ys → ⊥) → false ≡ same xs ys
-unlike [] [] n = absurd (n refl)
-unlike [] (y ∷ ys) n = refl
-unlike (x ∷ xs) [] n = refl
-unlike (x ∷ xs) (y ∷ ys) n = go (eqb x y) (unlike xs ys (λ e. n (ap suc e)))
-  where
-    go : (b : Bool) → false ≡ same xs ys → false ≡ (b && same xs ys)
-    go true e = e
-    go false e = refl
+-- LAW: equal slices are the same strings
+pub same_is : (xs ys : List ℕ) → pointwise nat_eq xs ys ≡ same xs ys
+same_is [] [] = refl
+same_is [] (y ∷ ys) = refl
+same_is (x ∷ xs) [] = refl
+same_is (x ∷ xs) (y ∷ ys) = ap (λ b. eqb x y && b) (same_is xs ys)
+
+pub same_from : (xs ys : List ℕ) (b : Bool) → pointwise nat_eq xs ys ≡ b → same xs ys ≡ b
+same_from xs ys b e = inv (same_is xs ys) ∙ e
+
+-- LAW: .. and so is what a test of two slices says of the strings that they hold
+pub same_told : (xs ys zs : List ℕ) (r b : Bool) → xs ≡ zs → r ≡ pointwise nat_eq xs ys → r ≡ b → same zs ys ≡ b
+same_told xs ys zs r b e f g = ap (λ x. same x ys) (inv e) ∙ inv (same_is xs ys) ∙ inv f ∙ g
+
+-- LAW: what the library's comparison says of two strings
+pub compared : (xs ys : List ℕ) → ComparedAs xs ys (slice_cmp nat_cmp xs ys)
+compared [] [] = refl
+compared [] (y ∷ ys) = refl
+compared (x ∷ xs) [] = refl
+compared (x ∷ xs) (y ∷ ys) = let rest = compared xs ys in grind (arith, nat_tests)
+
+-- ---- what is left of both from byte k on
 
 module _ (xs ys : List ℕ) (k : ℕ) (l : k < length xs) (m : k < length ys) where
   both_left : {A : Type 0} (f : List ℕ → List ℕ → A) → f (drop k xs) (drop k ys) ≡ f (get_or xs k 0 ∷ drop (k + 1) xs) (get_or ys k 0 ∷ drop (k + 1) ys)
   both_left f = ap₂ f (left_is xs k l) (left_is ys k m)
-
-  pub same_stops : (get_or xs k 0 ≡ get_or ys k 0 → ⊥) → same (drop k xs) (drop k ys) ≡ false
-  same_stops n = both_left same ∙ go
-    where
-      go : same (get_or xs k 0 ∷ drop (k + 1) xs) (get_or ys k 0 ∷ drop (k + 1) ys) ≡ false
-      go = rw (ne_eqb (get_or xs k 0) (get_or ys k 0) n)
-
-  pub same_goes : get_or xs k 0 ≡ get_or ys k 0 → same (drop k xs) (drop k ys) ≡ same (drop (k + 1) xs) (drop (k + 1) ys)
-  same_goes e = both_left same ∙ go
-    where
-      go : same (get_or xs k 0 ∷ drop (k + 1) xs) (get_or ys k 0 ∷ drop (k + 1) ys) ≡ same (drop (k + 1) xs) (drop (k + 1) ys)
-      go = rw (eq-eqb (get_or xs k 0) (get_or ys k 0) e)
 
   pub before_lower : get_or xs k 0 < get_or ys k 0 → before (drop k xs) (drop k ys) ≡ true
   before_lower e = both_left before ∙ go
@@ -53,20 +56,13 @@ module _ (xs ys : List ℕ) (k : ℕ) (l : k < length xs) (m : k < length ys) wh
       go : before (get_or xs k 0 ∷ drop (k + 1) xs) (get_or ys k 0 ∷ drop (k + 1) ys) ≡ before (drop (k + 1) xs) (drop (k + 1) ys)
       go = rw (le-ltb (get_or xs k 0) (get_or ys k 0) (omega arith), eq-eqb (get_or xs k 0) (get_or ys k 0) e)
 
--- LAW: both have ended
-pub same_ends : (xs ys : List ℕ) (k : ℕ) → length xs ≤ k → length ys ≤ k → same (drop k xs) (drop k ys) ≡ true
-same_ends xs ys k l m = ap₂ same (drop_of_length-le xs l) (drop_of_length-le ys m)
-
 -- LAW: where both have the same byte, what is left decides
-pub goes_on : (xs ys : List ℕ) (k : ℕ) → k < length xs → k < length ys → get_or xs k 0 ≡ get_or ys k 0 → (r : Order) → ComparedAs (drop (k + 1) xs) (drop (k + 1) ys) r
+pub goes_on : (xs ys : List ℕ) (k : ℕ) → k < length xs → k < length ys → get_or xs k 0 ≡ get_or ys k 0 → (r : Ordering) → ComparedAs (drop (k + 1) xs) (drop (k + 1) ys) r
     → ComparedAs (drop k xs) (drop k ys) r
-goes_on xs ys k l m e Before p = before_goes xs ys k l m e ∙ p
-goes_on xs ys k l m e Same p = left_is xs k l ∙ ap₂ ◌∷◌ e p ∙ inv (left_is ys k m)
-goes_on xs ys k l m e After p = before_goes ys xs k m l (inv e) ∙ p
+goes_on xs ys k l m e Less p = before_goes xs ys k l m e ∙ p
+goes_on xs ys k l m e Equal p = left_is xs k l ∙ ap₂ ◌∷◌ e p ∙ inv (left_is ys k m)
+goes_on xs ys k l m e Greater p = before_goes ys xs k m l (inv e) ∙ p
 
--- LAW: the first has ended, and the second has not; both have
-pub ends_first : (xs ys : List ℕ) (k : ℕ) → length xs ≤ k → k < length ys → before (drop k xs) (drop k ys) ≡ true
-ends_first xs ys k l m = ap₂ before (drop_of_length-le xs l) (left_is ys k m)
-
-pub both_end : (xs ys : List ℕ) (k : ℕ) → length xs ≤ k → length ys ≤ k → drop k xs ≡ drop k ys
-both_end xs ys k l m = drop_of_length-le xs l ∙ inv (drop_of_length-le ys m)
+-- LAW: what a comparison says of the strings that two slices hold
+pub compared_told : (xs ys zs : List ℕ) (r o : Ordering) → xs ≡ zs → ComparedAs xs ys r → r ≡ o → ComparedAs zs ys o
+compared_told xs ys zs r o e f g = subst (λ o. ComparedAs zs ys o) g (subst (λ x. ComparedAs x ys r) e f)

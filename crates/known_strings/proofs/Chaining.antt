@@ -18,7 +18,7 @@ use Rattle.marc.specs.Known.{same}
 use Rattle.marc.proofs.Strings.{none_of, left_is, not_same}
 use Rattle.marc.proofs.Unfit.{some_below}
 use Rattle.known_strings.specs.Lent.{string_in, listed_above, bad_in}
-use Rattle.known_strings.specs.Chains.{digests, digest_from, digest_of, block_size, has_digest, Chained, ChainFrom, FineTo}
+use Rattle.known_strings.specs.Chains.{digests, digest_from, digest_of, block_size, has_digest, like, Chained, ChainFrom, FineTo}
 
 -- ---- digests
 
@@ -32,12 +32,8 @@ unfolding digest_from
 digest_ends string k sum l = ap (digest_from sum) (drop_of_length-le string l)
 
 module _ (text ends : List ℕ) (from : ℕ) where
-  -- string k of those from entry `from` on is this string
-  abbrev pub like : List ℕ → ℕ → Bool
-  like string k = same (string_in text ends (from + k)) string
-
   -- one with another digest is not
-  unlike : (string : List ℕ) (k : ℕ) → has_digest text ends from (digest_of string) k ≡ false → like string k ≡ false
+  unlike : (string : List ℕ) (k : ℕ) → has_digest text ends from (digest_of string) k ≡ false → like text ends from string k ≡ false
   unlike string k e = not_same (string_in text ends (from + k)) string (λ q. eqb-false (digest_of (string_in text ends (from + k))) (digest_of string) e (ap digest_of q))
 
   -- ---- along a chain
@@ -46,13 +42,9 @@ module _ (text ends : List ℕ) (from : ℕ) where
   pub record WalkTo (head : ℕ) (string : List ℕ) (next : ℕ) : Type 0 where
     pub within : next ≤ head
     pub is : 0 < next → has_digest text ends from (digest_of string) (next - 1) ≡ true
-    pub none : (k : ℕ) → next ≤ k → k < head → like string k ≡ false
+    pub none : (k : ℕ) → next ≤ k → k < head → like text ends from string k ≡ false
 
   module _ (head : ℕ) (links string : List ℕ) (chain : ChainFrom text ends from head links string) where
-    -- LAW: at the head
-    pub walk_first : WalkTo head string head
-    walk_first = record { within = omega arith; is = chain.is; none = λ k l m. absurd (omega arith) }
-
     module _ (next : ℕ) (some : 0 < next) (at : WalkTo head string next) where
       -- the link leads to the last string before that has the digest
       link_is : get_or links (next - 1) 0 ≡ last_below (next - 1) (has_digest text ends from (digest_of string))
@@ -68,7 +60,7 @@ module _ (text ends : List ℕ) (from : ℕ) where
       walk_less = omega (arith, last.within)
 
       -- LAW: from a string that is not the one sought
-      pub walk_on : like string (next - 1) ≡ false → WalkTo head string (get_or links (next - 1) 0)
+      pub walk_on : like text ends from string (next - 1) ≡ false → WalkTo head string (get_or links (next - 1) 0)
       walk_on other =
           record {
             within = omega (arith, last.within, at.within);
@@ -76,14 +68,14 @@ module _ (text ends : List ℕ) (from : ℕ) where
             none = λ k l m. skipped k l m (dec_lt k (next - 1)) (dec_lt (next - 1) k);
           }
         where
-          skipped : (k : ℕ) → get_or links (next - 1) 0 ≤ k → k < head → Dec (k < next - 1) → Dec (next - 1 < k) → like string k ≡ false
+          skipped : (k : ℕ) → get_or links (next - 1) 0 ≤ k → k < head → Dec (k < next - 1) → Dec (next - 1 < k) → like text ends from string k ≡ false
           skipped k l m (yes v) _ = unlike string k (last.none k l v)
           skipped k l m (no v) (yes w) = at.none k (omega arith) m
-          skipped k l m (no v) (no w) = let q : k ≡ next - 1 = omega arith in ap (like string) q ∙ other
+          skipped k l m (no v) (no w) = let q : k ≡ next - 1 = omega arith in ap (like text ends from string) q ∙ other
 
     -- LAW: behind the chain
-    pub walk_end : WalkTo head string 0 → some head (like string) ≡ false
-    walk_end at = none_of head (like string) (λ k l. at.none k (omega arith) l)
+    pub walk_end : WalkTo head string 0 → some head (like text ends from string) ≡ false
+    walk_end at = none_of head (like text ends from string) (λ k l. at.none k (omega arith) l)
 
   -- ---- chains
 
@@ -111,14 +103,14 @@ module _ (text ends : List ℕ) (from : ℕ) where
       chain_within = head_is.within
 
       -- LAW: a string that is not on it is none of those chained
-      pub not_chained : some (get_or heads mark 0) (like string) ≡ false → (k : ℕ) → k < n → like string k ≡ false
+      pub not_chained : some (get_or heads mark 0) (like text ends from string) ≡ false → (k : ℕ) → k < n → like text ends from string k ≡ false
       not_chained none k l = go (dec_lt k (get_or heads mark 0))
         where
-          go : Dec (k < get_or heads mark 0) → like string k ≡ false
-          go (yes v) = none_on (like string k) refl
+          go : Dec (k < get_or heads mark 0) → like text ends from string k ≡ false
+          go (yes v) = none_on (like text ends from string k) refl
             where
-              none_on : (b : Bool) → like string k ≡ b → like string k ≡ false
-              none_on true e = absurd (false≢true (inv none ∙ some_of (get_or heads mark 0) (like string) k v e))
+              none_on : (b : Bool) → like text ends from string k ≡ b → like text ends from string k ≡ false
+              none_on true e = absurd (false≢true (inv none ∙ some_of (get_or heads mark 0) (like text ends from string) k v e))
               none_on false e = e
           go (no v) = unlike string k (head_is.none k (omega arith) l)
 
@@ -148,9 +140,9 @@ module _ (text ends : List ℕ) (from : ℕ) where
             ∙ ap (λ (d : ℕ). last_below n (has_digest text ends from d)) mark_is
 
   -- LAW: a string on the chain stands before, in an earlier entry
-  pub was_before : (j n : ℕ) → from + n ≤ j → some n (like (string_in text ends j)) ≡ true → listed_above text ends j ≡ true
+  pub was_before : (j n : ℕ) → from + n ≤ j → some n (like text ends from (string_in text ends j)) ≡ true → listed_above text ends j ≡ true
   was_before j n before found =
-      let one = some_below n (like (string_in text ends j)) found in
+      let one = some_below n (like text ends from (string_in text ends j)) found in
       some_of j (λ i. same (string_in text ends i) (string_in text ends j)) (from + one.0) (omega (arith, one.1)) one.2
 
 -- ---- entries gone over
@@ -250,26 +242,6 @@ module _ (text ends numbers : List ℕ) (absent : ℕ) where
             chained = to.chained;
             fine = fine_on;
           }
-
-  -- LAW: a block more
-  pub fine_joined : (from upto end r : ℕ) → FineTo text ends numbers absent 0 from end → FineTo text ends numbers absent from upto r → r ≤ end → FineTo text ends numbers absent 0 upto r
-  fine_joined from upto end r before here l =
-      record {
-        numbered = λ j u m. before.numbered j u (omega arith);
-        new = λ j i m u v w. go j i m v w (dec_lt i from);
-      }
-    where
-      go : (j i : ℕ) → j < r → i < j → i < upto → Dec (i < from) → same (string_in text ends i) (string_in text ends j) ≡ false
-      go j i m v w (yes d) = before.new j i (omega arith) (omega arith) v d
-      go j i m v w (no d) = here.new j i m (omega arith) v w
-
-  -- LAW: .. and what was bad behind all that it sought is bad still, if nothing before it is
-  pub bad_on : (end n r : ℕ) → r ≤ end → (r < end → bad_in text ends numbers absent r ≡ true) → (end < n → bad_in text ends numbers absent end ≡ true) → r < n → bad_in text ends numbers absent r ≡ true
-  bad_on end n r l here behind m = go (dec_lt r end)
-    where
-      go : Dec (r < end) → bad_in text ends numbers absent r ≡ true
-      go (yes v) = here v
-      go (no v) = let q : r ≡ end = omega arith in ap (bad_in text ends numbers absent) q ∙ behind (omega arith)
 
   -- LAW: all blocks
   pub fine_all : (upto end : ℕ) → FineTo text ends numbers absent 0 upto end → end ≤ upto → (j : ℕ) → j < end → bad_in text ends numbers absent j ≡ false

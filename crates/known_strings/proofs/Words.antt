@@ -1,31 +1,19 @@
 -- Bytes as digits of a number, the first the highest: the lower of two numbers has the lower byte where they first differ.
-use mathlib.Core.Path.{◌≡◌, ap, subst}
+use mathlib.Core.Path.{◌≡◌, sym as inv, ap₂, subst, ◌∙◌}
 use mathlib.Core.List.{List}
-use mathlib.Core.Bool.{true}
-use Prim.Native.Nat.{ℕ, zero, suc, ◌+◌, ◌*◌, ◌≤◌, ◌<◌}
+use mathlib.Core.Bool.{true, false, false≢true}
+use Prim.Native.Nat.{ℕ, zero, suc, ◌+◌, ◌-◌, ◌≤◌, ◌<◌}
 use native.Mathlib.Decide.{dec_lt}
 use native.Mathlib.Omega.{arith}
-use lib.ListN.{length, get_or, drop}
+use lib.ListN.{length, get_or, take, drop, length-drop}
+use lib.Seq.{take_all}
 use Rattle.marc.specs.Order.{before}
 use Rattle.known_strings.specs.Compared.{written_at, ComparedAs}
-use Rattle.known_strings.specs.declared.compare.Order.{Order}
-use Rattle.known_strings.specs.declared.compare.Order.TheVariants.{Before}
-use Rattle.known_strings.proofs.Bytes.{before_lower, goes_on}
-
--- ---- longer numbers by shorter ones
-
-module _ (bytes : List ℕ) (at : ℕ) where
-  -- the byte at an index, however it is reckoned
-  byte : (i j : ℕ) → i ≡ j → get_or bytes i 0 ≡ get_or bytes j 0
-  byte i j e = ap (λ i. get_or bytes i 0) e
-
-  pub two_is : get_or bytes at 0 * 256 + get_or bytes (at + 1) 0 ≡ written_at bytes at 2
-  two_is = omega (arith, byte (at + 0) at (omega arith))
-
-  pub four_is : written_at bytes at 2 * 65536 + written_at bytes (at + 2) 2 ≡ written_at bytes at 4
-  four_is = omega (arith, byte (at + 2 + 0) (at + 2) (omega arith), byte (at + 2 + 1) (at + 3) (omega arith))
-
--- ---- what they say of two strings
+use Rattle.std.proofs.Common.{Ordering, Less, Equal, Greater}
+use Rattle.std.proofs.lemmas.Cmp.{ranked}
+use Rattle.std.specs.Ordering.{nat_cmp, is_ne}
+use Rattle.std.specs.Cmp.Lexicographic.{slice_cmp}
+use Rattle.known_strings.proofs.Bytes.{compared, before_lower, goes_on}
 
 -- all that a list holds is bytes
 abbrev pub Bytes : List ℕ → Type 0
@@ -33,7 +21,7 @@ Bytes xs = (i : ℕ) → get_or xs i 0 < 256
 
 -- LAW: the same number has the same bytes, so what is left decides
 pub same_number : (xs ys : List ℕ) → Bytes xs → Bytes ys → (k n : ℕ) → k + n ≤ length xs → k + n ≤ length ys → written_at xs k n ≡ written_at ys k n
-    → (r : Order) → ComparedAs (drop (k + n) xs) (drop (k + n) ys) r → ComparedAs (drop k xs) (drop k ys) r
+    → (r : Ordering) → ComparedAs (drop (k + n) xs) (drop (k + n) ys) r → ComparedAs (drop k xs) (drop k ys) r
 same_number xs ys a b k zero l m e r p = let z : k + 0 ≡ k = omega arith in subst (λ i. ComparedAs (drop i xs) (drop i ys) r) z p
 same_number xs ys a b k (suc n) l m e r p =
     let here = a (k + n) in
@@ -53,5 +41,26 @@ lower_number xs ys a b k (suc n) l m e = go (dec_lt (written_at xs k n) (written
     go (no d) rest =
         let here = a (k + n) in
         let there = b (k + n) in
-        same_number xs ys a b k n (omega arith) (omega arith) (omega (arith, here, there)) Before
+        same_number xs ys a b k n (omega arith) (omega arith) (omega (arith, here, there)) Less
         (before_lower xs ys (k + n) (omega arith) (omega arith) (omega (arith, here, there)))
+
+module _ (xs ys : List ℕ) (a : Bytes xs) (b : Bytes ys) (k : ℕ) (l : k + 4 ≤ length xs) (m : k + 4 ≤ length ys) where
+  -- LAW: four bytes of both that are not the same decide
+  pub four_decide : (o : Ordering) → o ≡ nat_cmp (written_at xs k 4) (written_at ys k 4) → is_ne o ≡ true → ComparedAs (drop k xs) (drop k ys) o
+  four_decide Less e n = lower_number xs ys a b k 4 l m (ranked _ _ Less e)
+  four_decide Equal e n = absurd (false≢true n)
+  four_decide Greater e n = lower_number ys xs b a k 4 m l (ranked _ _ Greater e)
+
+  -- LAW: .. and if they are the same, what is left does
+  pub four_passed : (o : Ordering) → o ≡ nat_cmp (written_at xs k 4) (written_at ys k 4) → is_ne o ≡ false
+      → (r : Ordering) → ComparedAs (drop (k + 4) xs) (drop (k + 4) ys) r → ComparedAs (drop k xs) (drop k ys) r
+  four_passed Less e n = absurd (false≢true (inv n))
+  four_passed Equal e n = same_number xs ys a b k 4 l m (ranked _ _ Equal e)
+  four_passed Greater e n = absurd (false≢true (inv n))
+
+-- LAW: the library's comparison of what is left
+pub rest_decides : (xs ys : List ℕ) (k : ℕ) (r : Ordering) → r ≡ slice_cmp nat_cmp (take (length xs - k) (drop k xs)) (take (length ys - k) (drop k ys)) → ComparedAs (drop k xs) (drop k ys) r
+rest_decides xs ys k r e = subst (ComparedAs (drop k xs) (drop k ys)) (inv (e ∙ ap₂ (slice_cmp nat_cmp) (rest xs) (rest ys))) (compared (drop k xs) (drop k ys))
+  where
+    rest : (zs : List ℕ) → take (length zs - k) (drop k zs) ≡ drop k zs
+    rest zs = take_all (length zs - k) (drop k zs) (omega (arith, length-drop k zs))

@@ -25,6 +25,10 @@ module _ (text ends : List ℕ) (from : ℕ) where
   abbrev pub has_digest : ℕ → ℕ → Bool
   has_digest d k = eqb (digest_of (string_in text ends (from + k))) d
 
+  -- string k of those from entry `from` on is this string
+  abbrev pub like : List ℕ → ℕ → Bool
+  like string k = same (string_in text ends (from + k)) string
+
   -- each of the first n is linked to the last before it that has its digest
   abbrev pub LinkedTo : ℕ → List ℕ → Type 0
   LinkedTo n links = (k : ℕ) → k < n → get_or links k 0 ≡ last_below k (has_digest (digest_of (string_in text ends (from + k))))

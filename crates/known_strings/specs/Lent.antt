@@ -1,11 +1,9 @@
 -- The list as it is lent, by the text, the ends and the numbers alone.
-use Rattle.std.specs.Prelude.{List, Bool, ◌||◌, ℕ, zero, suc, ◌-◌, eqb, get_or, take, drop}
-use Rattle.std.proofs.Math.Option.{Option, none, some as just}
+use Rattle.std.specs.Prelude.{List, Bool, ◌||◌, ℕ, zero, suc, ◌-◌, eqb, length, get_or, take, drop}
 use Rattle.theory.specs.Least.{some}
-use Rattle.marc.specs.Known.{same}
+use Rattle.marc.specs.Known.{Known, same, known_in}
 use Rattle.marc.specs.Order.{Rises}
-use Rattle.known_strings.specs.declared.seek.Sought.{Sought}
-use Rattle.known_strings.specs.declared.seek.Sought.TheVariants.{Number, Unlisted}
+use Rattle.known_strings.specs.declared.list.KnownStrings.{KnownStrings}
 
 -- where string j begins: where the one before it ends
 abbrev pub begin_of_lem : List ℕ → ℕ → ℕ
@@ -19,9 +17,9 @@ part_in text start end = take (end - start) (drop start text)
 unfoldable pub string_in : List ℕ → List ℕ → ℕ → List ℕ
 string_in text ends j = part_in text (begin_of_lem ends j) (get_or ends j 0)
 
-abbrev pub sought_in : Sought → Option ℕ
-sought_in (Number n) = just n
-sought_in Unlisted = none
+-- string i is this string
+abbrev pub is_string : List ℕ → List ℕ → List ℕ → ℕ → Bool
+is_string text ends string i = same (string_in text ends i) string
 
 -- each of the first n strings stands before the next
 abbrev pub RisesTo : List ℕ → List ℕ → ℕ → Type 0
@@ -33,3 +31,11 @@ listed_above text ends j = some j (λ i. same (string_in text ends i) (string_in
 
 abbrev pub bad_in : List ℕ → List ℕ → List ℕ → ℕ → ℕ → Bool
 bad_in text ends numbers absent j = listed_above text ends j || eqb (get_or numbers j 0) absent
+
+-- the entries of a lent list
+abbrev pub listed : KnownStrings → List Known
+listed k = known_in k.text.now k.ends.now k.numbers.now
+
+-- each of its strings stands before the next
+abbrev pub Rising : KnownStrings → Type 0
+Rising k = RisesTo k.text.now k.ends.now (length (listed k))

@@ -5,65 +5,42 @@ ghost use Rattle.table.specs.Places.{place_in};
 ghost use Rattle.known_strings.specs.Lent.{listed_above, bad_in};
 
 use crate::chains::bad_of_many;
-use crate::compare::same_bytes;
-use crate::list::{part, string_at};
-use table::rules::Place;
+use crate::list::KnownStrings;
 
 // Up to so many strings are held against each other one by one, which then costs less than to chain them.
 const FEW: usize = 24;
 
 // Whether string j was listed before.
-fn was_listed(text: &[u8], ends: &[u32], j: usize) -> bool
-    requires { j < length ends.now }
-    ensures { result ≡ listed_above text.now ends.now j }
+fn was_listed(known: KnownStrings, j: usize) -> bool
+    requires { j < length known.ends.now }
+    ensures { result ≡ listed_above known.entry.text.now known.entry.ends.now j }
 {
-    let string = string_at(text, ends, j);
-    let mut start: usize = 0;
-    let mut i: usize = 0;
-    while i < j {
-        let end = ends[i] as usize;
-        if same_bytes(part(text, start, end), string) {
-            return true;
-        }
-        start = end;
-        i += 1;
-    }
-    false
+    known.position(known.string(j), j).is_some()
 }
 
 // Whether entry j is bad.
-fn is_bad(text: &[u8], ends: &[u32], numbers: &[u16], absent: u16, j: usize) -> bool
-    requires { (j < length ends.now) × (j < length numbers.now) }
-    ensures { result ≡ bad_in text.now ends.now numbers.now absent j }
+fn is_bad(known: KnownStrings, absent: u16, j: usize) -> bool
+    requires { (j < length known.ends.now) × (j < length known.numbers.now) }
+    ensures { result ≡ bad_in known.entry.text.now known.entry.ends.now known.entry.numbers.now absent j }
 {
-    if was_listed(text, ends, j) {
-        return true;
-    }
-    numbers[j] == absent
+    was_listed(known, j) || known.numbers[j] == absent
 }
 
 // The first of a few entries that is bad: each string is held against all before it.
-fn bad_of_few(text: &[u8], ends: &[u32], numbers: &[u16], absent: u16, n: usize) -> Place
-    requires { (n ≤ length ends.now) × (n ≤ length numbers.now) }
-    ensures { place_in result ≡ least_below n (bad_in text.now ends.now numbers.now absent) }
+fn bad_of_few(known: KnownStrings, absent: u16, n: usize) -> Option<usize>
+    requires { (n ≤ length known.ends.now) × (n ≤ length known.numbers.now) }
+    ensures { place_in result ≡ least_below n (bad_in known.entry.text.now known.entry.ends.now known.entry.numbers.now absent) }
 {
-    let mut j: usize = 0;
-    while j < n {
-        if is_bad(text, ends, numbers, absent, j) {
-            return Place::At(j);
-        }
-        j += 1;
-    }
-    Place::Nowhere
+    (0..n).find(|&j| is_bad(known, absent, j))
 }
 
 // The first of n entries that is bad.
-pub fn bad_entry(text: &[u8], ends: &[u32], numbers: &[u16], absent: u16, n: usize) -> Place
-    requires { (n ≤ length ends.now) × (n ≤ length numbers.now) }
-    ensures { place_in result ≡ least_below n (bad_in text.now ends.now numbers.now absent) }
+pub fn bad_entry(known: KnownStrings, absent: u16, n: usize) -> Option<usize>
+    requires { (n ≤ length known.ends.now) × (n ≤ length known.numbers.now) }
+    ensures { place_in result ≡ least_below n (bad_in known.entry.text.now known.entry.ends.now known.entry.numbers.now absent) }
 {
     if n <= FEW {
-        return bad_of_few(text, ends, numbers, absent, n);
+        return bad_of_few(known, absent, n);
     }
-    bad_of_many(text, ends, numbers, absent, n)
+    bad_of_many(known, absent, n)
 }

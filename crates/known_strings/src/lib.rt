@@ -4,6 +4,6 @@
 pub mod bad;
 mod chains;
 pub mod check;
-pub mod compare;
+mod compare;
 pub mod list;
-pub mod seek;
+pub mod tested;

@@ -1,50 +1,57 @@
 // The list as it is lent: all strings one behind the other, where each ends, and the numbers.
 ghost use Rattle.std.specs.Prelude.{◌≡◌, ◌≤◌, ◌<◌, length};
-ghost use Rattle.marc.specs.Known.{known_in};
-ghost use Rattle.known_strings.specs.Lent.{begin_of_lem, part_in, string_in};
+ghost use Rattle.theory.specs.Least.{least_below};
+ghost use Rattle.table.specs.Places.{place_in};
+ghost use Rattle.known_strings.specs.Lent.{begin_of_lem, part_in, string_in, is_string, listed};
+
+#[derive(Clone, Copy)]
+pub struct KnownStrings<'a> {
+    pub text: &'a [u8],
+    pub ends: &'a [u32],
+    pub numbers: &'a [u16],
+}
 
 // The bytes of a text from one place to another: what lies behind its last byte is not there, and an end below its beginning gives the empty string.
-pub fn part<'a>(text: &'a [u8], start: usize, end: usize) -> &'a [u8]
+fn part<'a>(text: &'a [u8], start: usize, end: usize) -> &'a [u8]
     ensures { result.now ≡ part_in text.now start end }
 {
-    let n = text.len();
-    if end <= n {
-        if start <= end {
-            return &text[start..end];
+    let end = end.min(text.len());
+    &text[start.min(end)..end]
+}
+
+impl<'a> KnownStrings<'a> {
+    // How many strings are listed: the shorter of the two lists counts.
+    pub fn len(self) -> usize
+        ensures { (result ≤ length self.entry.ends.now) × (result ≤ length self.entry.numbers.now) × (length (listed self.entry) ≡ result) }
+    {
+        self.ends.len().min(self.numbers.len())
+    }
+
+    // Where string j begins.
+    fn begin_of(self, j: usize) -> usize
+        requires { j < length self.ends.now }
+        ensures { result ≡ begin_of_lem self.entry.ends.now j }
+    {
+        if j == 0 {
+            return 0;
         }
-        return &text[..0];
+        self.ends[j - 1] as usize
     }
-    if start <= n {
-        return &text[start..n];
-    }
-    &text[..0]
-}
 
-// Where string j begins.
-fn begin_of(ends: &[u32], j: usize) -> usize
-    requires { j < length ends.now }
-    ensures { result ≡ begin_of_lem ends.now j }
-{
-    if j == 0 {
-        return 0;
+    // String j.
+    #[tactic(auto, unfolding(crate::specs::Lent::string_in))]
+    pub fn string(self, j: usize) -> &'a [u8]
+        requires { j < length self.ends.now }
+        ensures { result.now ≡ string_in self.entry.text.now self.entry.ends.now j }
+    {
+        part(self.text, self.begin_of(j), self.ends[j] as usize)
     }
-    ends[j - 1] as usize
-}
 
-// String j.
-pub fn string_at<'a>(text: &'a [u8], ends: &[u32], j: usize) -> &'a [u8]
-    requires { j < length ends.now }
-    ensures { result.now ≡ string_in text.now ends.now j }
-{
-    part(text, begin_of(ends, j), ends[j] as usize)
-}
-
-// How many strings are listed: the shorter of the two lists counts.
-pub fn count(ends: &[u32], numbers: &[u16]) -> usize
-    ensures { (result ≤ length ends.now) × (result ≤ length numbers.now) × ((text : _) → length (known_in text ends.now numbers.now) ≡ result) }
-{
-    if ends.len() < numbers.len() {
-        return ends.len();
+    // The first of the first n strings that has these bytes.
+    pub fn position(self, string: &[u8], n: usize) -> Option<usize>
+        requires { n ≤ length self.ends.now }
+        ensures { place_in result ≡ least_below n (is_string self.entry.text.now self.entry.ends.now string.now) }
+    {
+        (0..n).find(|&i| self.string(i) == string)
     }
-    numbers.len()
 }

@@ -1,43 +1,15 @@
--- The loop keeps that no string passed is the one at j.
-use mathlib.Core.Path.{◌≡◌, refl, sym, ap, ap₂, ◌∙◌}
-use native.Mathlib.Omega.{arith}
-use Rattle.theory.specs.Least.{some}
-use Rattle.theory.proofs.Lemmas.{some_of}
-use Rattle.marc.specs.Known.{same}
-use Rattle.known_strings.proofs.Entries.{begins_next, part_is}
-use Rattle.known_strings.proofs.Testing.{some_on}
+-- The search among the strings before it finds it, or does not.
+use mathlib.Core.Path.{ap, ◌∙◌}
+use mathlib.Core.List.{List}
+use Prim.Native.Nat.{ℕ}
+use Rattle.theory.specs.Least.{least_below}
+use Rattle.known_strings.specs.Lent.{is_string, string_in}
+use Rattle.known_strings.proofs.Seeking.{some_found}
 use Rattle.known_strings.proofs.bad.was_listed.Goals as goal
-use Rattle.known_strings.proofs.bad.was_listed.Goals.{After-same_bytes}
-use Rattle.known_strings.proofs.bad.was_listed.Invariants.{like}
-
--- what the comparison says of string i
-told : (c : goal.After-same_bytes)
-    → let a = c.args in
-    like a.text.now a.ends.now a.j c.loop-i.i ≡ c.same_bytes.result
-told c =
-    let a = c.args in
-    let head = c.loop-i in
-    let is = c.part.ensures ∙ part_is a.text.now a.ends.now head.i head.start head.invariant.2 in
-    ap₂ same (sym is) (sym head.invariant.1) ∙ sym c.same_bytes.ensures
-
-pub loop-i-init : goal.loop-i-init
-loop-i-init c = (omega arith, c.string_at-string.ensures, refl, refl)
-
-pub returns-then-same_bytes : goal.returns-then-same_bytes
-returns-then-same_bytes c =
-    let a = c.args in
-    let head = c.loop-i in
-    sym (some_of a.j (like a.text.now a.ends.now a.j) head.i (omega arith) (told (goal.at.returns-then-same_bytes c).After-same_bytes ∙ c.if-same_bytes.true))
-
-pub loop-i-preserved : goal.loop-i-preserved
-loop-i-preserved c =
-    let a = c.args in
-    let head = c.loop-i in
-    (omega arith, head.invariant.1, begins_next a.ends.now head.i, some_on (like a.text.now a.ends.now a.j) head.i head.invariant.3 (told (goal.at.loop-i-preserved c).After-same_bytes ∙ c.if-same_bytes.false))
 
 pub returns : goal.returns
 returns c =
-    let a = c.args in
-    let head = c.loop-i in
-    let i : a.j ≡ head.i = omega arith in
-    sym (ap (λ n. some n (like a.text.now a.ends.now a.j)) i ∙ head.invariant.3)
+    let k = c.args.known in
+    let same_as = λ (string : List ℕ). least_below c.args.j (is_string k.text.now k.ends.now string) in
+    c.is_some.ensures
+    ∙ some_found (is_string k.text.now k.ends.now (string_in k.text.now k.ends.now c.args.j)) c.args.j c.position.result (c.position.ensures ∙ ap same_as c.string.ensures)

@@ -8,7 +8,7 @@ use Rattle.known_strings.proofs.chains.bad_of_many.Given as goal
 
 abbrev pub invariant-loop-end : goal.invariant-loop-end
 invariant-loop-end l =
-    (l.from ≤ l.end) × (l.end ≤ l.n) × FineTo l.text l.ends l.numbers l.absent 0 (l.from + block_size) l.end × (l.end < l.n → bad_in l.text l.ends l.numbers l.absent l.end ≡ true)
+    (l.from ≤ l.end) × (l.end ≤ l.n) × FineTo l.known.text.now l.known.ends.now l.known.numbers.now l.absent 0 (l.from + block_size) l.end × (l.end < l.n → bad_in l.known.text.now l.known.ends.now l.known.numbers.now l.absent l.end ≡ true)
 
 abbrev pub decreases-loop-end : goal.decreases-loop-end
 decreases-loop-end l = l.end - l.from

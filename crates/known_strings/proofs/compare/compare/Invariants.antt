@@ -1,13 +1,9 @@
--- What each turn of the loop keeps.
-use mathlib.Core.Path.{◌≡◌}
-use Prim.Native.Nat.{◌≤◌, ◌-◌, min}
-use lib.ListN.{length, drop}
+-- What each turn of the loop keeps: what is left decides.
+use Prim.Native.Nat.{◌*◌}
+use lib.ListN.{drop}
+use Rattle.std.proofs.Common.{Ordering}
 use Rattle.known_strings.specs.Compared.{ComparedAs}
-use Rattle.known_strings.specs.declared.compare.Order.{Order}
 use Rattle.known_strings.proofs.compare.compare.Given as goal
 
-abbrev pub invariant-loop-k : goal.invariant-loop-k
-invariant-loop-k l = (l.n ≡ min (length l.one) (length l.two)) × (l.k ≤ l.n) × ((r : Order) → ComparedAs (drop l.k l.one) (drop l.k l.two) r → ComparedAs l.one l.two r)
-
-abbrev pub decreases-loop-k : goal.decreases-loop-k
-decreases-loop-k l = l.n - l.k
+abbrev pub invariant-loop-i : goal.invariant-loop-i
+invariant-loop-i l = (r : Ordering) → ComparedAs (drop (4 * l.i) l.one) (drop (4 * l.i) l.two) r → ComparedAs l.one l.two r
