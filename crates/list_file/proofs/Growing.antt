@@ -5,11 +5,10 @@ use mathlib.Core.List.{List, [], ◌∷◌, ◌++◌, append_assoc, append-nil}
 use Prim.Native.Nat.{ℕ, ◌+◌, ◌*◌, ◌≤◌, ◌<◌}
 use native.Mathlib.Numerals.{add-one}
 use native.Mathlib.Omega.{arith}
-use lib.ListN.{length, set, take, drop, length-append, length-drop, take-append-drop}
-use lib.Seq.{length-take-le, take-add, take_all, take_at, take-suc-set}
+use lib.ListN.{length, set, take, drop, length-append}
+use lib.Seq.{length-take-le, take_at, take-suc-set}
 use Rattle.theory.proofs.Lemmas.{all_append}
 use Rattle.meaning.specs.Over.{over}
-use Rattle.text.specs.Texts.{PutBy}
 use Rattle.marc.specs.Known.{Known, known}
 use Rattle.marc.specs.ListFile.{Listable, line_of, lines_of, first_line_lem, list_text, ListFile, NoLine, BadLine, behind}
 use Rattle.marc.proofs.Lists.{line_long}
@@ -35,89 +34,87 @@ file_more {heading} {absent} {ks} k f fits = record {
       ∙ ap (λ t. first_line_lem heading absent ++ t) (sym (lines_more ks k));
 }
 
--- what stands between two places
-module _ (file part : List ℕ) (at next : ℕ) (inside : at ≤ length file) (within : next ≤ length file) (e : drop at file ≡ part ++ drop next file) where
-  part_long : next ≡ at + length part
-  part_long = omega (arith, ap length e, length-append part (drop next file), length-drop at file, length-drop next file)
-
-  part_front : take next file ≡ take at file ++ part
-  part_front =
-      ap (λ n. take n file) part_long ∙ take-add at (length part) file ∙ ap (λ t. take at file ++ t) (ap (take (length part)) e ∙ take_at part (drop next file) (length part) refl)
-
 -- what was put, with all before it
-put_behind : {before after string : List ℕ} {at next : ℕ} → PutBy before at string next after → take next after ≡ take at before ++ string
+put_behind : (before string : List ℕ) (at : ℕ) → at + length string ≤ length before → take (at + length string) (over before at string) ≡ take at before ++ string
 unfolding over
-put_behind {before} {string} {at} {next} p =
-    let front : length (take at before) ≡ at = length-take-le at before (omega (arith, p.ends, p.inside)) in
-    ap (take next) p.written
-    ∙ take_at (take at before ++ string) (drop (at + length string) before) next (omega (arith, p.ends, front, length-append (take at before) string))
+put_behind before string at room =
+    take_at (take at before ++ string) (drop (at + length string) before) (at + length string) (omega (arith, length-take-le at before (omega arith), length-append (take at before) string))
 
 one_set : (xs : List ℕ) (n x : ℕ) → n < length xs → take (n + 1) (set xs n x) ≡ take n xs ++ (x ∷ [])
 one_set xs n x l = ap (λ m. take m (set xs n x)) (add-one n) ∙ take-suc-set xs n x l
 
 -- ---- what has been gathered
 
-pub record Growing (file text ends numbers : List ℕ) (heading absent at used n : ℕ) : Type 0 where
+-- What stands in front of the rest is a list's file.
+pub record Growing (file text ends numbers rest : List ℕ) (heading absent used n : ℕ) : Type 0 where
+  pub front : List ℕ
+  pub split : file ≡ front ++ rest
   pub entries : List Known
-  pub is : ListFile (take at file) heading absent entries
+  pub is : ListFile front heading absent entries
   pub count : length entries ≡ n
   pub lent : Lent (take used text) (take n ends) (take n numbers) entries
-  pub within : at ≤ length file
-  pub short : used ≤ at
-  pub few : 3 * n ≤ at
+  pub short : used ≤ length front
+  pub few : 3 * n ≤ length front
 
-pub growing_first : (file text ends numbers : List ℕ) (heading absent next : ℕ) → Firsts file heading absent next → Growing file text ends numbers heading absent next 0 0
+pub growing_first : (file text ends numbers rest : List ℕ) (heading absent : ℕ) → Firsts file heading absent rest → Growing file text ends numbers rest heading absent 0 0
 unfolding list_text
-growing_first file text ends numbers heading absent next f = record {
+growing_first file text ends numbers rest heading absent f = record {
+  front = first_line_lem heading absent;
+  split = f.written;
   entries = [];
-  is = record {
-    heading_fits = f.heading_fits;
-    absent_fits = f.absent_fits;
-    each = tt;
-    written = part_front file (first_line_lem heading absent) 0 next (omega arith) f.within f.written ∙ sym (append-nil (first_line_lem heading absent));
-  };
+  is = record { heading_fits = f.heading_fits; absent_fits = f.absent_fits; each = tt; written = sym (append-nil (first_line_lem heading absent)) };
   count = refl;
   lent = lent_none;
-  within = f.within;
   short = omega arith;
   few = omega arith;
 }
 
-module _ (file text ends numbers : List ℕ) (heading absent at used n : ℕ) (g : Growing file text ends numbers heading absent at used n) where
-  -- LAW: a line more
-  pub growing_next : length file ≤ length text → n < length ends → n < length numbers → (after : List ℕ) (number next to : ℕ) → Strings file text after at used number next to
-      → (at < next) × (to ≤ next) × Growing file after (set ends n to) (set numbers n number) heading absent next to (n + 1)
-  growing_next room ends-room numbers-room after number next to s =
-      let k = known s.string number in
-      let long : next ≡ at + length (line_of k) = part_long file (line_of k) at next g.within s.within s.written in
-      let size : length (take used text) ≡ used = length-take-le used text (omega (arith, g.short, g.within)) in
-      let end : to ≡ length (take used text) + length s.string = omega (arith, s.put.ends, size) in (
-        omega (arith, long, line_long k),
-        omega (arith, long, line_long k, s.put.ends, g.short),
+module _ (file text ends numbers rest : List ℕ) (heading absent used n : ℕ) (g : Growing file text ends numbers rest heading absent used n) where
+  module _ (number : ℕ) (string next : List ℕ) (s : Strings rest number string next) where
+    -- LAW: there is room for a line more
+    pub room_left : (used + length string ≤ length file) × (3 * n + 3 ≤ length file) × (length next < length rest)
+    room_left =
+        let k = known string number in
+        let whole : length file ≡ length g.front + length rest = ap length g.split ∙ length-append g.front rest in
+        let line : length rest ≡ length (line_of k) + length next = ap length s.written ∙ length-append (line_of k) next in
+        (omega (arith, whole, line, line_long k, g.short), omega (arith, whole, line, line_long k, g.few), omega (arith, line, line_long k))
+
+    -- LAW: a line more
+    pub growing_next : length file ≤ length text → n < length ends → n < length numbers
+        → Growing file (over text used string) (set ends n (used + length string)) (set numbers n number) next heading absent (used + length string) (n + 1)
+    growing_next room ends-room numbers-room =
+        let k = known string number in
+        let size : length (take used text) ≡ used = length-take-le used text (omega (arith, room_left.0)) in
+        let end : used + length string ≡ length (take used text) + length string = omega (arith, size) in
+        let longer : length (g.front ++ line_of k) ≡ length g.front + length (line_of k) = length-append g.front (line_of k) in
         record {
+          front = g.front ++ line_of k;
+          split = g.split ∙ ap (λ t. g.front ++ t) s.written ∙ sym (append_assoc g.front (line_of k) next);
           entries = g.entries ++ (k ∷ []);
-          is = rw (part_front file (line_of k) at next g.within s.within s.written) (file_more k g.is s.fits);
+          is = file_more k g.is s.fits;
           count = omega (arith, g.count, length-append g.entries (k ∷ []));
-          lent = rw (put_behind s.put, one_set ends n to ends-room, one_set numbers n number numbers-room, end) (lent_more g.lent s.string number);
-          within = s.within;
-          short = omega (arith, long, line_long k, s.put.ends, g.short);
-          few = omega (arith, long, line_long k, g.few);
-        },
-      )
+          lent = rw (put_behind text string used (omega (arith, room_left.0)), one_set ends n (used + length string) ends-room, one_set numbers n number numbers-room, end) (lent_more g.lent string number);
+          short = omega (arith, longer, line_long k, g.short);
+          few = omega (arith, longer, line_long k, g.few);
+        }
 
   -- LAW: no line is what follows
-  pub growing_bad : at < length file → NoLine (drop at file) → BadLine file (n + 2)
-  growing_bad l never =
-      subst (λ m. BadLine file (m + 2)) g.count
-      (behind heading absent g.entries (drop at file) g.is (sym (take-append-drop at file)) (omega (arith, length-drop at file)) never)
+  pub growing_bad : 0 < length rest → NoLine rest → BadLine file (n + 2)
+  growing_bad some never = subst (λ m. BadLine file (m + 2)) g.count (behind heading absent g.entries rest g.is g.split some never)
 
   -- LAW: nothing follows
-  pub growing_all : length file ≤ at → length file ≤ length text → n ≤ length ends → n ≤ length numbers → Gathered file text ends numbers heading absent n used
-  growing_all l room ends-room numbers-room = record {
-    entries = g.entries;
-    is = subst (λ f. ListFile f heading absent g.entries) (take_all at file l) g.is;
-    lent = g.lent.is;
-    text_inside = omega (arith, g.short, g.within);
-    ends_inside = ends-room;
-    numbers_inside = numbers-room;
-  }
+  pub growing_all : length rest ≡ 0 → length file ≤ length text → n ≤ length ends → n ≤ length numbers → Gathered file text ends numbers (record { heading = heading; absent = absent; strings = n; bytes = used })
+  growing_all none room ends-room numbers-room =
+      let whole : length file ≡ length g.front + length rest = ap length g.split ∙ length-append g.front rest in
+      record {
+        entries = g.entries;
+        is = subst (λ f. ListFile f heading absent g.entries) (sym (g.split ∙ ap (λ t. g.front ++ t) (nothing rest none) ∙ append-nil g.front)) g.is;
+        lent = g.lent.is;
+        text_inside = omega (arith, whole, g.short);
+        ends_inside = ends-room;
+        numbers_inside = numbers-room;
+      }
+    where
+      nothing : (xs : List ℕ) → length xs ≡ 0 → xs ≡ []
+      nothing [] e = refl
+      nothing (x ∷ xs) e = absurd (omega arith)

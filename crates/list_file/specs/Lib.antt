@@ -2,4 +2,3 @@
 pub mod Numerals
 pub mod Lines
 pub mod Listings
-pub mod Reads

@@ -1,118 +1,87 @@
 // Line by line.
-ghost use Rattle.std.specs.Prelude.{◌*◌, ◌≤◌, ◌<◌, length};
-ghost use Rattle.list_file.specs.Lines.{EndsAt, FirstBy, LineBy};
-ghost use Rattle.list_file.specs.Listings.{ListingBy};
+ghost use Rattle.std.specs.Prelude.{◌≡◌, ℕ, ◌*◌, ◌≤◌, ◌<◌, length, slice_index, MatchOption, MatchResult};
+ghost use Rattle.marc.specs.ListFile.{NoFirstLine, NoLine, BadLine};
+ghost use Rattle.list_file.specs.Lines.{Firsts, Strings};
+ghost use Rattle.list_file.specs.Listings.{Gathered};
 
-use crate::numeral::{Numeral, read_number};
-use text::put_text;
+use crate::numeral::read_number;
 
+// What a list file has: the heading symbol, the number of absent dates, how many strings, and how many bytes they have.
 #[derive(Clone, Copy)]
-pub enum First {
-    // the heading symbol, the number of absent dates, and the byte behind the line
-    Of(u16, u16, usize),
-    Other,
+pub struct Listing {
+    pub heading: u16,
+    pub absent: u16,
+    pub strings: usize,
+    pub bytes: usize,
 }
 
+// A line's number and its string, and what stands behind the line.
 #[derive(Clone, Copy)]
-pub enum Line {
-    // the string's number, the byte behind the line, and where the text ends that was gathered
-    Of(u16, usize, usize),
-    Other,
+struct Line<'a> {
+    number: u16,
+    string: &'a [u8],
+    rest: &'a [u8],
 }
 
-#[derive(Clone, Copy)]
-pub enum Listing {
-    // the heading symbol, the number of absent dates, how many strings, and how many bytes they have
-    Known(u16, u16, usize, usize),
-    // the line that is not as it has to be, counted from 1
-    Bad(usize),
-}
-
-// Where the line ends, or the file.
-fn line_end(file: &[u8], from: usize) -> usize
-    requires { from ≤ length file.now }
-    ensures { EndsAt file.now from result }
+// Where the first line ends.
+fn line_end(bytes: &[u8]) -> Option<usize>
+    ensures { MatchOption result ((k : ℕ) → k < length bytes.now → slice_index bytes.now k ≡ 10 → ⊥) (λ end. (end < length bytes.now) × (slice_index bytes.now end ≡ 10) × ((k : ℕ) → k < end → slice_index bytes.now k ≡ 10 → ⊥)) }
 {
-    let mut i = from;
-    while i < file.len() {
-        if file[i] == b'\n' {
-            return i;
-        }
-        i += 1;
-    }
-    i
+    bytes.iter().position(|byte| *byte == b'\n')
 }
 
-fn first_line(file: &[u8]) -> First
-    ensures { FirstBy file.now result }
+// The heading symbol and the number of absent dates, and what stands behind the first line.
+fn first_line<'a>(file: &'a [u8]) -> Option<(u16, u16, &'a [u8])>
+    ensures { MatchOption result (NoFirstLine file.entry.now) (λ read. Firsts file.entry.now read.0 read.1 read.2.now) }
 {
-    match read_number(file, 0) {
-        Numeral::Other => First::Other,
-        Numeral::Value(heading, blank) => {
-            if file[blank] != b' ' {
-                return First::Other;
-            }
-            match read_number(file, blank + 1) {
-                Numeral::Other => First::Other,
-                Numeral::Value(absent, end) => {
-                    if file[end] != b'\n' {
-                        return First::Other;
-                    }
-                    First::Of(heading, absent, end + 1)
-                }
-            }
-        }
-    }
+    let (heading, rest) = read_number(file)?;
+    let (absent, rest) = read_number(rest.strip_prefix(b" ")?)?;
+    Some((heading, absent, rest.strip_prefix(b"\n")?))
 }
 
-// The line that begins at a byte; its string is put behind the text gathered so far.
-fn next_line(file: &[u8], at: usize, text: &mut [u8], used: usize) -> Line
-    requires { (used ≤ at) × (at ≤ length file.now) × (length file.now ≤ length text.old) }
-    ensures { LineBy file.now text.old text.new at used result }
+// The line that some bytes begin with.
+fn next_line<'a>(bytes: &'a [u8]) -> Option<Line<'a>>
+    ensures { MatchOption result (NoLine bytes.entry.now) (λ line. Strings bytes.entry.now line.number line.string.now line.rest.now) }
 {
-    match read_number(file, at) {
-        Numeral::Other => Line::Other,
-        Numeral::Value(number, blank) => {
-            if file[blank] != b' ' {
-                return Line::Other;
-            }
-            let end = line_end(file, blank + 1);
-            if end == file.len() {
-                return Line::Other;
-            }
-            let to = put_text(text, used, &file[blank + 1..end]);
-            Line::Of(number, end + 1, to)
-        }
-    }
+    let (number, rest) = read_number(bytes)?;
+    let rest = rest.strip_prefix(b" ")?;
+    let end = line_end(rest)?;
+    Some(Line {
+        number,
+        string: &rest[..end],
+        rest: &rest[end + 1..],
+    })
 }
 
-// The list in the file.
-pub fn gather_list(file: &[u8], text: &mut [u8], ends: &mut [u32], numbers: &mut [u16]) -> Listing
+// The list in the file, or the line that is not as it has to be, counted from 1.
+pub fn gather_list(
+    file: &[u8],
+    text: &mut [u8],
+    ends: &mut [u32],
+    numbers: &mut [u16],
+) -> Result<Listing, usize>
     requires file_in_bounds { (length file.now ≤ length text.old) × (length file.now < 4294967296) }
     requires file_len_bound { (length file.now ≤ 3 * length ends.old) × (length file.now ≤ 3 * length numbers.old) }
-    ensures { ListingBy file.now text.new ends.new numbers.new result }
+    ensures { MatchResult result (Gathered file.now text.new ends.new numbers.new) (BadLine file.now) }
 {
-    match first_line(file) {
-        First::Other => Listing::Bad(1),
-        First::Of(heading, absent, behind) => {
-            let mut at = behind;
-            let mut used: usize = 0;
-            let mut n: usize = 0;
-            while at < file.len() {
-                match next_line(file, at, text, used) {
-                    Line::Other => {
-                        return Listing::Bad(n + 2);
-                    }
-                    Line::Of(number, next, to) => {
-                        ends[n] = to as u32;
-                        numbers[n] = number;
-                        at = next;
-                        used = to;
-                    }
-                }
-                n += 1;
-            }
-            Listing::Known(heading, absent, n, used)
-        }
+    let (heading, absent, behind) = first_line(file).ok_or(1usize)?;
+    let mut rest = behind;
+    let mut used: usize = 0;
+    let mut n: usize = 0;
+    while !rest.is_empty() {
+        let line = next_line(rest).ok_or(n + 2)?;
+        let to = used + line.string.len();
+        text[used..to].copy_from_slice(line.string);
+        ends[n] = to as u32;
+        numbers[n] = line.number;
+        rest = line.rest;
+        used = to;
+        n += 1;
     }
+    Ok(Listing {
+        heading,
+        absent,
+        strings: n,
+        bytes: used,
+    })
 }

@@ -1,42 +1,20 @@
 // Numbers in decimal, without leading zeros.
-ghost use Rattle.std.specs.Prelude.{◌≤◌, length};
-ghost use Rattle.list_file.specs.Numerals.{NumeralBy};
+ghost use Rattle.std.specs.Prelude.{MatchOption};
+ghost use Rattle.list_file.specs.Numerals.{NoNumber, Valued};
 
-use marc_record::number::{digit, is_digit};
-
-// Numbers have 16 bits.
-const MOST: usize = 65535;
-
-#[derive(Clone, Copy)]
-pub enum Numeral {
-    // its value, and the byte behind it
-    Value(u16, usize),
-    Other,
-}
-
-// The number that begins at a byte and has some byte behind it that is no digit.
-pub fn read_number(file: &[u8], at: usize) -> Numeral
-    requires { at ≤ length file.now }
-    ensures { NumeralBy file.now at result }
+// The number of 16 bits that some bytes begin with, and what stands behind it, which begins with a byte that is no digit.
+pub fn read_number<'a>(bytes: &'a [u8]) -> Option<(u16, &'a [u8])>
+    ensures { MatchOption result (NoNumber bytes.entry.now) (λ read. Valued bytes.entry.now read.0 read.1.now) }
 {
-    let mut value: usize = 0;
-    let mut i = at;
-    while i < file.len() {
-        let byte = file[i];
-        if !is_digit(byte) {
-            if i == at {
-                return Numeral::Other;
-            }
-            return Numeral::Value(value as u16, i);
+    let mut value: u16 = 0;
+    for (i, byte) in bytes.iter().enumerate() {
+        if !byte.is_ascii_digit() {
+            return (i > 0).then_some((value, &bytes[i..]));
         }
-        if value == 0 && i > at {
-            return Numeral::Other;
+        if value == 0 && i > 0 {
+            return None;
         }
-        value = value * 10 + digit(byte);
-        if value > MOST {
-            return Numeral::Other;
-        }
-        i += 1;
+        value = value.checked_mul(10)?.checked_add((*byte - b'0') as u16)?;
     }
-    Numeral::Other
+    None
 }

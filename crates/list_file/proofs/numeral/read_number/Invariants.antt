@@ -1,11 +1,6 @@
--- What each turn of the loop keeps.
-use Prim.Native.Nat.{◌-◌}
-use lib.ListN.{length}
+-- The digits that were passed are those of the value.
 use Rattle.list_file.proofs.Numbers.{Passing}
 use Rattle.list_file.proofs.numeral.read_number.Given as goal
 
 abbrev pub invariant-loop-i : goal.invariant-loop-i
-invariant-loop-i l = Passing l.file l.at l.value l.i
-
-abbrev pub decreases-loop-i : goal.decreases-loop-i
-decreases-loop-i l = length l.file - l.i
+invariant-loop-i l = Passing l.bytes l.value l.i
