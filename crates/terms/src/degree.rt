@@ -1,7 +1,6 @@
 // The degree of two headings.
 ghost use Rattle.std.specs.Prelude.{◌≡◌, ◌*◌, ◌≤◌, length};
 ghost use Rattle.meaning.specs.File.{table_in};
-ghost use Rattle.degrees.specs.Rows.{Rows};
 ghost use Rattle.terms.specs.Degrees.{Heading, degree_of};
 
 use degrees::rows::{degree_in_row, lay_where_worth};
@@ -15,26 +14,8 @@ const FEW_ROWS: usize = 2 * FEW_SYMBOLS as usize;
 
 const ALL_ROWS: usize = 2 * SymbolSet::ROOM as usize;
 
-// The least degree over the positions of two headings of one length.
-fn least_degree(table: SoundTable, rows: &[u16], one: &[u16], two: &[u16]) -> u16
-    requires rows { Rows table.file.now rows.now }
-    requires headings { Heading (table_in table.file.now) one.now × Heading (table_in table.file.now) two.now }
-    requires alike { length one.now ≡ length two.now }
-    ensures { result ≡ degree_of (table_in table.entry.file.now) one.now two.now }
-{
-    let mut least: u16 = 1000;
-    for (i, symbol) in one.iter().enumerate() {
-        let here = degree_in_row(table, rows, *symbol, two[i]);
-        if here == 0 {
-            return 0;
-        }
-        least = least.min(here);
-    }
-    least
-}
-
-// .. with a list of so many numbers for the rows.
-fn degree_by_rows<const ROWS: usize>(table: SoundTable, one: &[u16], two: &[u16]) -> u16
+// The least degree over the positions of two headings of one length, by a list of so many numbers for the rows.
+fn least_degree<const ROWS: usize>(table: SoundTable, one: &[u16], two: &[u16]) -> u16
     requires room { (2 * (table_in table.file.now).size ≤ ROWS) × (ROWS ≤ 65536) }
     requires headings { Heading (table_in table.file.now) one.now × Heading (table_in table.file.now) two.now }
     requires alike { length one.now ≡ length two.now }
@@ -42,7 +23,15 @@ fn degree_by_rows<const ROWS: usize>(table: SoundTable, one: &[u16], two: &[u16]
 {
     let mut rows = [0u16; ROWS];
     lay_where_worth(table, &mut rows, one.len());
-    least_degree(table, &rows, one, two)
+    let mut least: u16 = 1000;
+    for (i, symbol) in one.iter().enumerate() {
+        let here = degree_in_row(table, &rows, *symbol, two[i]);
+        if here == 0 {
+            return 0;
+        }
+        least = least.min(here);
+    }
+    least
 }
 
 // The degree of two headings. Near symbols have equal arities, so lists of unlike length have a position of degree 0.
@@ -54,8 +43,8 @@ pub fn heading_degree(table: SoundTable, one: &[u16], two: &[u16]) -> u16
         return 0;
     }
     if table.symbols <= FEW_SYMBOLS {
-        degree_by_rows::<FEW_ROWS>(table, one, two)
+        least_degree::<FEW_ROWS>(table, one, two)
     } else {
-        degree_by_rows::<ALL_ROWS>(table, one, two)
+        least_degree::<ALL_ROWS>(table, one, two)
     }
 }
