@@ -69,19 +69,14 @@ impl Refusal {
         ensures { result ≡ place_of (told self) }
     {
         match self {
-            Refusal::Arity(symbol) => symbol,
-            Refusal::Pair(index) => index,
-            Refusal::Pattern(node) => node,
-            Refusal::Heading(node) => node,
-            Refusal::Clash(node) => node,
-            Refusal::NoForm(variable) => variable,
-            Refusal::NoSymbol(place) => place,
-            Refusal::Layout => 0,
-            Refusal::Counts => 0,
-            Refusal::Cut => 0,
-            Refusal::Room => 0,
-            Refusal::Misshapen => 0,
-            Refusal::Absent => 0,
+            Refusal::Arity(place)
+            | Refusal::Pair(place)
+            | Refusal::Pattern(place)
+            | Refusal::Heading(place)
+            | Refusal::Clash(place)
+            | Refusal::NoForm(place)
+            | Refusal::NoSymbol(place) => place,
+            _ => 0,
         }
     }
 }
