@@ -24,14 +24,6 @@ use Rattle.table.proofs.Rising.{Short, good_pair}
 pub or_none : (a b : ℕ) → bit_or a b ≡ 0 → (a ≡ 0) × (b ≡ 0)
 or_none a b e = (omega (arith, or_add_and a b, and_le_r a b), omega (arith, or_add_and a b, and_le_l a b))
 
--- LAW: what holds below n and at n holds below n + 1
-pub one_more : (P : ℕ → Type 0) (n : ℕ) → ((i : ℕ) → i < n → P i) → P n → (i : ℕ) → i < n + 1 → P i
-one_more P n below here i l = go (ℕ_discrete i n)
-  where
-    go : Dec (i ≡ n) → P i
-    go (yes e) = subst P (sym e) here
-    go (no d) = below i (omega (arith, d))
-
 -- LAW: where every lane passes, the pairs are in order and in their ranges
 pub lanes_ordered : (symbols : ℕ) (numbers : ℕ → ℕ) → ((lane : ℕ) → lane < 48 → LanePasses symbols numbers lane) → OrderedRun symbols numbers
 lanes_ordered symbols numbers passes j l =

@@ -36,6 +36,7 @@ fn only_if(asked: bool, fault: u16) -> u16
 }
 
 // The fault of a pair, `lower` and one more than `less`, that does not rise, or does not come after the pair `low`, `high`.
+#[tactic(auto, using(crate::proofs::Runs::or_none))]
 fn disorder(low: u16, high: u16, lower: u16, less: u16) -> u16
     ensures { result ≡ 0 → (lower ≤ less) × (key_of low high ≤ key_of lower less) }
 {
@@ -48,16 +49,15 @@ fn limit(lane: usize, symbols: u16) -> u16
     requires { 2 ≤ symbols }
     ensures { (lane % 3 ≡ 0 → result + 2 ≡ symbols) × (lane % 3 ≡ 1 → result + 1 ≡ listed_top) }
 {
-    if lane % 3 == 0 {
-        return symbols - 2;
+    match lane % 3 {
+        0 => symbols - 2,
+        1 => LISTED_TOP - 1,
+        _ => u16::MAX,
     }
-    if lane % 3 == 1 {
-        return LISTED_TOP - 1;
-    }
-    65535
 }
 
 // The fault of the number `here`, which has `lower` before it, and before that the pair `low`, `high`.
+#[tactic(auto, using(crate::proofs::Runs::or_none))]
 pub fn lane_fault(lane: usize, symbols: u16, low: u16, high: u16, lower: u16, here: u16) -> u16
     requires { 2 ≤ symbols }
     ensures { result ≡ 0 → Passes lane symbols low high lower here }

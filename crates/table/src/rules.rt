@@ -1,10 +1,11 @@
 // The rules that arities and pairs have to keep, for a file that is read and for one that is to be written.
 ghost use Rattle.std.specs.Prelude.{◌≡◌, ◌&&◌, not, ◌+◌, ◌*◌, ◌<◌, ltb};
-ghost use Rattle.theory.specs.Pairs.{pair};
 ghost use Rattle.meaning.specs.Refusals.{row, at0, row2, row3, unsound};
 ghost use Rattle.table.specs.Places.{place_in};
-ghost use Rattle.table.specs.Keys.{key_of};
+ghost use Rattle.table.specs.Keys.{key_of, pair_key};
+ghost use Rattle.table.specs.Read.{pair_in};
 
+use crate::read::Pair;
 use sets::SymbolSet;
 
 // A table has no more symbols than a set has room for, and no more pairs than this.
@@ -16,16 +17,11 @@ pub const MOST_PAIRS: usize = 8192;
 const MOST_ARGUMENTS: u8 = 8;
 
 // Whether a table may have so many symbols and pairs.
+#[tactic(auto, unfolding(meaning::specs::Refusals::row2))]
 pub fn allowed(symbols: usize, pairs: usize) -> bool
     ensures { row2 symbols pairs ≡ row 2 (at0 (not result)) }
 {
-    if symbols < 1 {
-        return false;
-    }
-    if symbols > MOST_SYMBOLS {
-        return false;
-    }
-    pairs <= MOST_PAIRS
+    1 <= symbols && symbols <= MOST_SYMBOLS && pairs <= MOST_PAIRS
 }
 
 // The first symbol whose arity is too high.
@@ -45,26 +41,16 @@ pub fn key(lower: u16, higher: u16) -> u32
 // The highest degree that a pair may have: 1000 is a symbol's with itself alone.
 pub const LISTED_TOP: u16 = 999;
 
-// Whether a pair may be listed after one with the key `previous`; 0 stands before every pair.
-pub fn may_follow(arities: &[u8], previous: u32, lower: u16, higher: u16, degree: u16) -> bool
-    ensures { result ≡ (not (unsound arities.now (pair lower higher degree)) && ltb previous (key_of lower higher)) }
+// Whether the pair may be listed after one with the key `previous`; 0 stands before every pair.
+pub fn may_follow(arities: &[u8], previous: u32, next: Pair) -> bool
+    ensures { result ≡ (not (unsound arities.now (pair_in next)) && ltb previous (pair_key (pair_in next))) }
 {
-    if lower >= higher {
-        return false;
-    }
-    let low = lower as usize;
-    let high = higher as usize;
-    if high >= arities.len() {
-        return false;
-    }
-    if arities[low] != arities[high] {
-        return false;
-    }
-    if degree < 1 {
-        return false;
-    }
-    if degree > LISTED_TOP {
-        return false;
-    }
-    previous < key(lower, higher)
+    let lower = next.lower as usize;
+    let higher = next.higher as usize;
+    lower < higher
+        && higher < arities.len()
+        && arities[lower] == arities[higher]
+        && 1 <= next.degree
+        && next.degree <= LISTED_TOP
+        && previous < key(next.lower, next.higher)
 }
