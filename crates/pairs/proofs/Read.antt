@@ -1,5 +1,5 @@
 -- The pairs by their numbers as they are read: pair k has the numbers from 3k on, so what is told of these numbers is told of the pair.
-use mathlib.Core.Path.{◌≡◌, ap, subst}
+use mathlib.Core.Path.{◌≡◌, sym, ap, subst, ◌∙◌}
 use mathlib.Core.List.{List}
 use mathlib.Core.Bool.{false, ◌&&◌, not}
 use Prim.Native.Nat.{ℕ, ◌+◌, ◌*◌, ◌≤◌, ◌<◌}
@@ -22,19 +22,19 @@ module _ (numbers : ℕ → ℕ) (pairs : List Pair) (whole : ℕ) (reads : Read
   key_next k l = rw (add-one k) (ap pair_key (reads.are k l))
 
   -- LAW: pair j of the numbers from pair k on is pair k + j
-  pub pair_of_run : (k j : ℕ) → k + j < whole → pair_of (numbers_from numbers (3 * k)) j ≡ get_or pairs (k + j) (pair 0 0 0)
-  pair_of_run k j l =
-      let a : 3 * k + 3 * j ≡ 3 * (k + j) = omega arith in
-      let b : 3 * k + (3 * j + 1) ≡ 3 * (k + j) + 1 = omega arith in
-      let c : 3 * k + (3 * j + 2) ≡ 3 * (k + j) + 2 = omega arith in
+  pub pair_of_run : (k at : ℕ) → at ≡ 3 * k → (j : ℕ) → k + j < whole → pair_of (numbers_from numbers at) j ≡ get_or pairs (k + j) (pair 0 0 0)
+  pair_of_run k at e j l =
+      let a : at + 3 * j ≡ 3 * (k + j) = omega arith in
+      let b : at + (3 * j + 1) ≡ 3 * (k + j) + 1 = omega arith in
+      let c : at + (3 * j + 2) ≡ 3 * (k + j) + 2 = omega arith in
       rw (c, b, a, reads.are (k + j) l)
 
   module _ (arities : List ℕ) where
     -- LAW: pair k is good exactly if its numbers may be listed and have a key above the one before
-    pub good_read : (k : ℕ) → k < whole
-        → (not (unsound arities (pair_of numbers k)) && ltb (key_before_lem pairs k) (pair_key (pair_of numbers k))) ≡ not (bad_pair_lem arities pairs k)
-    good_read k l =
-        subst (λ p. (not (unsound arities p) && ltb (key_before_lem pairs k) (pair_key p)) ≡ not (bad_pair_lem arities pairs k)) (reads.are k l) (good_pair arities pairs k reads.short)
+    pub good_read : (k : ℕ) (p : Pair) → p ≡ pair_of numbers k → k < whole
+        → (not (unsound arities p) && ltb (key_before_lem pairs k) (pair_key p)) ≡ not (bad_pair_lem arities pairs k)
+    good_read k p e l =
+        subst (λ p. (not (unsound arities p) && ltb (key_before_lem pairs k) (pair_key p)) ≡ not (bad_pair_lem arities pairs k)) (reads.are k l ∙ sym e) (good_pair arities pairs k reads.short)
 
     -- LAW: where the first pair is good, there are two symbols or more
     pub two_symbols : 0 < whole → bad_pair_lem arities pairs 0 ≡ false → 2 ≤ length arities

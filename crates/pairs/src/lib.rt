@@ -25,8 +25,8 @@ fn key_before<N: PairNumbers>(numbers: &N, k: usize) -> u32
     if k == 0 {
         return 0;
     }
-    let at = 3 * (k - 1);
-    key(numbers.number(at), numbers.number(at + 1))
+    let before = numbers.pair(k - 1);
+    key(before.lower, before.higher)
 }
 
 // The first pair that may not be listed where it stands.
@@ -37,13 +37,11 @@ pub fn bad_pair<N: PairNumbers>(arities: &[u8], numbers: &N) -> Option<usize>
     let good = good_until(arities, numbers, pairs);
     let mut previous = key_before(numbers, good);
     for k in good..pairs {
-        let lower = numbers.number(3 * k);
-        let higher = numbers.number(3 * k + 1);
-        let degree = numbers.number(3 * k + 2);
-        if !may_follow(arities, previous, lower, higher, degree) {
+        let next = numbers.pair(k);
+        if !may_follow(arities, previous, next) {
             return Some(k);
         }
-        previous = key(lower, higher);
+        previous = key(next.lower, next.higher);
     }
     None
 }

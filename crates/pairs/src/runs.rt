@@ -12,6 +12,7 @@ use table::lanes::{LANES, RUN, lane_fault};
 use table::rules::{MOST_SYMBOLS, may_follow};
 
 // Whether the pairs of a run are in order and in their ranges. The pair before them begins at number `at`.
+#[tactic(auto, using(table::proofs::Runs::or_none))]
 fn in_order<N: PairNumbers>(numbers: &N, at: usize, symbols: u16) -> bool
     requires { (at + 52 ≤ 3 * N.whole numbers.now) × (2 ≤ symbols) }
     ensures { result ≡ true → OrderedRun symbols (numbers_from (N.number_of numbers.now) at) }
@@ -19,15 +20,14 @@ fn in_order<N: PairNumbers>(numbers: &N, at: usize, symbols: u16) -> bool
     let mut fault: u16 = 0;
     for lane in 0..LANES {
         let i = at + lane;
-        fault = fault
-            | lane_fault(
-                lane,
-                symbols,
-                numbers.number(i),
-                numbers.number(i + 1),
-                numbers.number(i + 3),
-                numbers.number(i + 4),
-            );
+        fault |= lane_fault(
+            lane,
+            symbols,
+            numbers.number(i),
+            numbers.number(i + 1),
+            numbers.number(i + 3),
+            numbers.number(i + 4),
+        );
     }
     fault == 0
 }
@@ -48,47 +48,33 @@ fn alike<N: PairNumbers>(numbers: &N, at: usize, arities: &[u8]) -> bool
     true
 }
 
-// So many pairs are good, where the first is: those of the runs after it, up to one that fails, or to the last pair, which is in no run.
-fn runs_until<N: PairNumbers>(arities: &[u8], numbers: &N, pairs: usize) -> usize
-    requires { (length arities.now ≤ most_symbols) × (pairs ≡ N.whole numbers.now) × (0 < pairs) × (bad_pair_lem arities.now (N.listed numbers.now) 0 ≡ false) }
-    ensures { (result ≤ pairs) × (least_below result (bad_pair_lem arities.now (N.listed numbers.now)) ≡ none) }
+// So many of the runs after the first pair are good, up to one that fails, where that pair is good. (The last lane of a run looks at the pair
+// behind it.)
+#[tactic(auto, using(crate::proofs::Read::two_symbols))]
+fn good_runs<N: PairNumbers>(arities: &[u8], numbers: &N, runs: usize) -> usize
+    requires { (length arities.now ≤ most_symbols) × (16 * runs + 1 < N.whole numbers.now) × (bad_pair_lem arities.now (N.listed numbers.now) 0 ≡ false) }
+    ensures { (result ≤ runs) × (least_below (16 * result + 1) (bad_pair_lem arities.now (N.listed numbers.now)) ≡ none) }
 {
     let symbols = arities.len() as u16;
-    let mut last: usize = 0;
-    while pairs - last > RUN + 1 {
-        let at = 3 * last;
-        if !in_order(numbers, at, symbols) {
-            return last + 1;
+    for run in 0..runs {
+        let at = LANES * run;
+        if !in_order(numbers, at, symbols) || !alike(numbers, at, arities) {
+            return run;
         }
-        if !alike(numbers, at, arities) {
-            return last + 1;
-        }
-        last += RUN;
     }
-    last + 1
+    runs
 }
 
-// So many pairs, from the first on, are good.
+// So many pairs, from the first on, are good: the first one and those of the runs after it. The last pair is in no run.
 pub fn good_until<N: PairNumbers>(arities: &[u8], numbers: &N, pairs: usize) -> usize
     requires { pairs ≡ N.whole numbers.now }
     ensures { (result ≤ pairs) × (least_below result (bad_pair_lem arities.now (N.listed numbers.now)) ≡ none) }
 {
-    if pairs < RUN + 2 {
+    if pairs < RUN + 2 || arities.len() > MOST_SYMBOLS {
         return 0;
     }
-    if arities.len() > MOST_SYMBOLS {
+    if !may_follow(arities, 0, numbers.pair(0)) {
         return 0;
     }
-    let first_good = may_follow(
-        arities,
-        0,
-        numbers.number(0),
-        numbers.number(1),
-        numbers.number(2),
-    );
-    if first_good {
-        runs_until(arities, numbers, pairs)
-    } else {
-        0
-    }
+    RUN * good_runs(arities, numbers, (pairs - 2) / RUN) + 1
 }

@@ -8,6 +8,7 @@ use native.Mathlib.Omega.{arith}
 use Rattle.theory.specs.Least.{least_below}
 use Rattle.meaning.specs.Refusals.{bad_pair_lem}
 use Rattle.meaning.proofs.First.{least_on, least_at}
+use Rattle.table.specs.Keys.{pair_key}
 use Rattle.pairs.proofs.Read.{good_read, key_next}
 use Rattle.pairs.proofs.bad_pair.Goals as goal
 use Rattle.pairs.proofs.bad_pair.Goals.{After-may_follow}
@@ -17,8 +18,8 @@ told : (g : _) (c : goal.After-may_follow g)
     → let listed = g.N.PairNumbers.listed c.args.numbers.now in
     c.may_follow.result ≡ not (bad_pair_lem c.args.arities.now listed c.loop-k.k)
 told g c =
-    rw (c.may_follow.ensures, c.loop-k.invariant.1, c.number-lower.ensures, c.number-higher.ensures, c.number-degree.ensures)
-    (good_read _ _ _ (g.met.N.PairNumbers.laws c.args.numbers.now) c.args.arities.now c.loop-k.k (omega arith))
+    rw (c.may_follow.ensures, c.loop-k.invariant.1)
+    (good_read _ _ _ (g.met.N.PairNumbers.laws c.args.numbers.now) c.args.arities.now c.loop-k.k _ c.pair-next.ensures (omega arith))
 
 pub returns-then-not-may_follow : goal.returns-then-not-may_follow
 returns-then-not-may_follow g c =
@@ -35,7 +36,7 @@ loop-k-preserved g c =
     let k = c.loop-k.k in
     let is_good : bad k ≡ false = not-true (bad k) (sym (told g (goal.at.loop-k-preserved g c).After-may_follow) ∙ c.if-not-may_follow.false) in (
       omega arith,
-      rw (c.key-previous.ensures, c.number-lower.ensures, c.number-higher.ensures) (sym (key_next _ _ _ (g.met.N.PairNumbers.laws n) k (omega arith))),
+      c.key-previous.ensures ∙ ap pair_key c.pair-next.ensures ∙ sym (key_next _ _ _ (g.met.N.PairNumbers.laws n) k (omega arith)),
       rw (add-one k) (least_on bad k c.loop-k.invariant.2 is_good),
     )
 
