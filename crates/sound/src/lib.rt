@@ -14,21 +14,16 @@ use table::rules::{allowed, high_arity};
 use table::sound_table::SoundTable;
 
 // Whether the offsets and the total are what the counts ask for, and the file has that length.
+#[tactic(auto, using(table::proofs::Pairs::number_small), unfolding(meaning::specs::Refusals::row1_offsets))]
 fn well_placed(file: &[u8], symbols: usize, pairs: usize) -> bool
     requires { (10 ≤ length file.now) × (symbols ≡ symbol_count_lem file.now) × (pairs ≡ pair_count_lem file.now) }
     ensures { row1_offsets file.now ≡ row 1 (at0 (not result)) }
 {
-    if number_at(file, 4) != 10 {
-        return false;
-    }
-    if number_at(file, 6) as usize != 10 + symbols {
-        return false;
-    }
-    let total = number_at(file, 8) as usize;
-    if total != 10 + symbols + 6 * pairs {
-        return false;
-    }
-    total == file.len()
+    let total = 10 + symbols + 6 * pairs;
+    number_at(file, 4) == 10
+        && number_at(file, 6) as usize == 10 + symbols
+        && number_at(file, 8) as usize == total
+        && total == file.len()
 }
 
 // Whether the arities and the pairs keep the rules, in a file that is laid out as its counts ask for. A place in a list fits 16 bits since the
@@ -53,6 +48,7 @@ fn check_lists(file: &[u8], symbols: usize, pairs: usize) -> Result<(), Refusal>
 }
 
 // The table that the bytes are, or else the first of the refusals 1 to 4.
+#[tactic(auto, using(table::proofs::Rows::placed_length), unfolding(meaning::specs::Refusals::table_rows, meaning::specs::Refusals::row1_short))]
 pub fn check<'a>(file: &'a [u8]) -> Result<SoundTable<'a>, Refusal>
     ensures checked { found result ≡ first (table_rows file.entry.now) }
     ensures same_file { IfOk result (λ table. table.file.now ≡ file.entry.now) }
