@@ -112,3 +112,8 @@ module _ (arities : List ℕ) (p sound : ℕ) (output : List ℕ) where
   pub begun_refused : (r : Refusal) → refused_as r ≡ counted_answer arities p sound (length output) → output ≡ begun_output arities p sound output
   unfolding counted_answer begun_output
   begun_refused r e = rw (answered_some (first (counted_rows arities p sound (length output))) (total (length arities) p) r e)
+
+-- what `verdict` answers by, and what `begin` knows of a file that is written
+pub ruleset answered_by_rows = (by_counts, by_arity, by_pair, by_room, by_none, arity_within, row_counted)
+
+pub ruleset given_bounds = (given_counted, given_room)

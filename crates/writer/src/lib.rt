@@ -18,6 +18,7 @@ use refusal::Refusal;
 use table::rules::{MOST_PAIRS, allowed, high_arity};
 
 // The file's length for so many pairs, of which the first `sound` may be listed as they stand, and an output with so much room.
+#[tactic(auto, using(crate::proofs::Rows::answered_by_rows))]
 fn verdict(arities: &[u8], pairs: usize, sound: usize, room: usize) -> Result<usize, Refusal>
     ensures { said result ≡ counted_answer arities.now pairs sound room }
 {
@@ -39,6 +40,7 @@ fn verdict(arities: &[u8], pairs: usize, sound: usize, room: usize) -> Result<us
 }
 
 // Writes the file's front, all but its pairs, or refuses; tells how long the file is. Every refusal is made here, before the first byte is written.
+#[tactic(auto, using(crate::proofs::Rows::given_bounds))]
 fn begin(arities: &[u8], pairs: usize, sound: usize, output: &mut [u8]) -> Result<usize, Refusal>
     ensures result_value { said result ≡ counted_answer arities.now pairs sound (length output.old) }
     ensures output_after { output.new ≡ begun_output arities.now pairs sound output.old }

@@ -5,26 +5,17 @@ use lib.ListN.{length}
 use Rattle.meaning.specs.File.{header}
 use Rattle.refusal.specs.Told.{told}
 use Rattle.meaning.proofs.Over.{over_next}
-use Rattle.writer.proofs.Rows.{given_counted, given_room, begun_given, begun_refused}
+use Rattle.writer.proofs.Rows.{given_room, begun_given, begun_refused}
 use Rattle.writer.proofs.begin.Goals as goal
 
-pub put_header-requires : goal.put_header-requires
-put_header-requires c = omega (arith, given_counted _ _ _ _ _ c.in_ok-total.ensures, given_room _ _ _ _ _ c.in_ok-total.ensures)
-
-pub put_arities-requires : goal.put_arities-requires
-put_arities-requires c = omega (arith, given_room _ _ _ _ _ c.in_ok-total.ensures)
-
-pub returns : goal.returns
-returns c =
+pub returns-clause-output_after : goal.returns-clause-output_after
+returns-clause-output_after c =
     let a = c.args in
     let given = c.in_ok-total.ensures in
-    record {
-      result_value = given;
-      output_after = over_next a.output.now 0 (header (length a.arities.now) a.pairs) 10 a.arities.now
-          c.put_header.ensures c.put_arities.ensures
-          refl (omega (arith, given_room _ _ _ _ _ given))
-          ∙ begun_given _ _ _ _ _ given;
-    }
+    over_next a.output.now 0 (header (length a.arities.now) a.pairs) 10 a.arities.now
+    c.put_header.ensures c.put_arities.ensures
+    refl (omega (arith, given_room _ _ _ _ _ given))
+    ∙ begun_given _ _ _ _ _ given
 
 pub returns-in_err-total-clause-output_after : goal.returns-in_err-total-clause-output_after
 returns-in_err-total-clause-output_after c = begun_refused _ _ _ _ (told _) c.in_err-total.ensures
