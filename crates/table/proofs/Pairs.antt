@@ -1,19 +1,12 @@
 -- Where a file's lists stand in its bytes: the symbols' arities after the header, then the pairs, whose numbers have two bytes each.
-use mathlib.Core.Path.{◌≡◌, ap, subst}
+use mathlib.Core.Path.{◌≡◌, ap}
 use mathlib.Core.List.{List}
-use mathlib.Core.Bool.{◌&&◌, not}
 use Prim.Native.Nat.{ℕ, zero, suc, ◌+◌, ◌-◌, ◌<◌}
-use native.Mathlib.Numerals.{add-one}
 use native.Mathlib.Omega.{arith}
-use lib.Dec.{ltb}
 use lib.ListN.{get_or, take, drop}
 use Rattle.theory.specs.Pairs.{pair}
-use Rattle.meaning.specs.File.{number, symbol_count_lem, pair_count_lem, pair_at, pairs_at_lem, arities_in, pairs_from, pairs_in}
-use Rattle.meaning.specs.Tables.{pair_start}
-use Rattle.meaning.specs.Refusals.{unsound, bad_pair_lem}
-use Rattle.meaning.proofs.Bytes.{pair_in_lem}
-use Rattle.table.specs.Keys.{pair_key, key_before_lem}
-use Rattle.table.proofs.Rising.{Short, good_pair}
+use Rattle.meaning.specs.File.{number, symbol_count_lem, arities_in, pairs_from}
+use Rattle.table.proofs.Rising.{Short}
 
 -- LAW: the part of the file that is lent as its arities
 pub arities_part : (file : List ℕ) (s : ℕ) → s ≡ symbol_count_lem file → take (10 + s - 10) (drop 10 file) ≡ arities_in file

@@ -47,10 +47,14 @@ pub fn may_follow(arities: &[u8], previous: u32, next: Pair) -> bool
 {
     let lower = next.lower as usize;
     let higher = next.higher as usize;
-    lower < higher
-        && higher < arities.len()
-        && arities[lower] == arities[higher]
-        && 1 <= next.degree
-        && next.degree <= LISTED_TOP
-        && previous < key(next.lower, next.higher)
+    if lower >= higher || higher >= arities.len() {
+        return false;
+    }
+    if arities[lower] != arities[higher] {
+        return false;
+    }
+    if next.degree < 1 || next.degree > LISTED_TOP {
+        return false;
+    }
+    previous < key(next.lower, next.higher)
 }
