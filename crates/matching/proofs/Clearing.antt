@@ -1,13 +1,11 @@
--- Clearing a list from some index on, element by element: the part that is passed is what stood before that index and zeros behind it.
-use mathlib.Core.Path.{◌≡◌, refl, sym as inv, ap, ◌∙◌}
-use mathlib.Core.List.{List, [], ◌∷◌, ◌++◌, append_assoc, append-nil}
-use Prim.Native.Nat.{ℕ, ◌+◌, ◌-◌, ◌≤◌, ◌<◌}
-use native.Mathlib.Nat.{sub-zero}
-use native.Mathlib.Numerals.{add-one}
+-- Clearing a list from some index on, part by part: the part that is passed is what stood before that index and zeros behind it.
+use mathlib.Core.Path.{◌≡◌, sym as inv, ap, ◌∙◌}
+use mathlib.Core.List.{List, ◌++◌, append_assoc}
+use Prim.Native.Nat.{ℕ, ◌+◌, ◌-◌, ◌≤◌}
 use native.Mathlib.Omega.{arith}
 use borrow.Rule.Slice.PartMut.{put_mid, Post-is, mid_len}
-use lib.ListN.{length, set, take, drop, length-set, length-append, length-replicate, replicate-append-replicate}
-use lib.Seq.{take_all, take_at, take-suc-set, length-take-le}
+use lib.ListN.{length, take, drop, length-append, length-replicate, replicate-append-replicate}
+use lib.Seq.{take_at, length-take-le}
 use Rattle.meaning.specs.Calls.{zeros}
 
 -- `out`, which was `before`, is cleared from `from` up to i
@@ -17,65 +15,34 @@ pub record Clearing (before : List ℕ) (from : ℕ) (out : List ℕ) (i : ℕ) 
   pub kept : length out ≡ length before
   pub passed : take i out ≡ take from before ++ zeros (i - from)
 
-module _ (before : List ℕ) (from : ℕ) where
-  pub clearing_start : from ≤ length before → Clearing before from before from
-  clearing_start l =
-      let none : from - from ≡ 0 = omega arith in
-      record { begun = omega arith; inside = l; kept = refl; passed = inv (ap (λ n. take from before ++ zeros n) none ∙ append-nil (take from before)) }
+module _ (before : List ℕ) (from : ℕ) {out : List ℕ} {i : ℕ} (g : Clearing before from out i) where
+  -- LAW: a part more, that was lent and is back
+  pub clearing_part : (end : ℕ) {part later : List ℕ} → i ≤ end → end ≤ length before → part ≡ zeros (length (take (end - i) (drop i out)))
+      → later ≡ put_mid i (end - i) out part → length later ≡ length out → Clearing before from later end
+  clearing_part end {part} {later} a b is back same =
+      record { begun = omega (arith, g.begun); inside = b; kept = same ∙ g.kept; passed = ap (take end) back ∙ front ∙ joined }
+    where
+      lent : part ≡ zeros (end - i)
+      lent = is ∙ ap zeros (mid_len i end out (omega (arith, g.kept)))
 
-  module _ {out : List ℕ} {i : ℕ} (g : Clearing before from out i) where
-    -- LAW: one more
-    pub clearing_more : i < length before → Clearing before from (set out i 0) (i + 1)
-    clearing_more l =
-        let more : i - from + 1 ≡ i + 1 - from = omega (arith, g.begun) in
-        record {
-          begun = omega (arith, g.begun);
-          inside = omega arith;
-          kept = length-set out i 0 ∙ g.kept;
-          passed =
-              rw add-one (take-suc-set out i 0 (omega (arith, g.kept)))
-              ∙ ap (λ l. l ++ (0 ∷ [])) g.passed
-              ∙ append_assoc (take from before) (zeros (i - from)) (0 ∷ [])
-              ∙ ap (λ l. take from before ++ l) (replicate-append-replicate (i - from) 1 0 ∙ ap zeros more);
-        }
+      rest : List ℕ
+      rest = drop end out
 
-    -- LAW: a part more, that was lent and is back
-    pub clearing_part : (end : ℕ) {part later : List ℕ} → i ≤ end → end ≤ length before → part ≡ zeros (length (take (end - i) (drop i out)))
-        → later ≡ put_mid i (end - i) out part → length later ≡ length out → Clearing before from later end
-    clearing_part end {part} {later} a b is back same =
-        record { begun = omega (arith, g.begun); inside = b; kept = same ∙ g.kept; passed = ap (take end) back ∙ front ∙ joined }
-      where
-        lent : part ≡ zeros (end - i)
-        lent = is ∙ ap zeros (mid_len i end out (omega (arith, g.kept)))
+      all : put_mid i (end - i) out part ≡ (take i out ++ zeros (end - i)) ++ rest
+      all =
+          ap (λ (l : List ℕ). take i out ++ (part ++ l)) (Post-is i end out a)
+          ∙ ap (λ (l : List ℕ). take i out ++ (l ++ rest)) lent
+          ∙ inv (append_assoc (take i out) (zeros (end - i)) rest)
 
-        rest : List ℕ
-        rest = drop end out
+      long : length (take i out ++ zeros (end - i)) ≡ end
+      long = length-append (take i out) (zeros (end - i)) ∙ omega (arith, length-take-le i out (omega (arith, g.kept, g.inside)), length-replicate {A = ℕ} (end - i) 0)
 
-        all : put_mid i (end - i) out part ≡ (take i out ++ zeros (end - i)) ++ rest
-        all =
-            ap (λ (l : List ℕ). take i out ++ (part ++ l)) (Post-is i end out a)
-            ∙ ap (λ (l : List ℕ). take i out ++ (l ++ rest)) lent
-            ∙ inv (append_assoc (take i out) (zeros (end - i)) rest)
+      front : take end (put_mid i (end - i) out part) ≡ take i out ++ zeros (end - i)
+      front = ap (take end) all ∙ take_at (take i out ++ zeros (end - i)) rest end long
 
-        long : length (take i out ++ zeros (end - i)) ≡ end
-        long = length-append (take i out) (zeros (end - i)) ∙ omega (arith, length-take-le i out (omega (arith, g.kept, g.inside)), length-replicate {A = ℕ} (end - i) 0)
-
-        front : take end (put_mid i (end - i) out part) ≡ take i out ++ zeros (end - i)
-        front = ap (take end) all ∙ take_at (take i out ++ zeros (end - i)) rest end long
-
-        joined : take i out ++ zeros (end - i) ≡ take from before ++ zeros (end - from)
-        joined =
-            let more : i - from + (end - i) ≡ end - from = omega (arith, g.begun) in
-            ap (λ l. l ++ zeros (end - i)) g.passed
-            ∙ append_assoc (take from before) (zeros (i - from)) (zeros (end - i))
-            ∙ ap (λ l. take from before ++ l) (replicate-append-replicate (i - from) (end - i) 0 ∙ ap zeros more)
-
-    -- LAW: all
-    pub clearing_end : length before ≤ i → out ≡ take from before ++ zeros (length before - from)
-    clearing_end l =
-        let e : i ≡ length before = omega (arith, g.inside) in
-        inv (take_all i out (omega (arith, g.kept))) ∙ g.passed ∙ ap (λ n. take from before ++ zeros (n - from)) e
-
--- LAW: all of it, from the front
-pub cleared_all : (before : List ℕ) {out : List ℕ} → out ≡ take 0 before ++ zeros (length before - 0) → out ≡ zeros (length before)
-cleared_all before e = e ∙ ap zeros (sub-zero (length before))
+      joined : take i out ++ zeros (end - i) ≡ take from before ++ zeros (end - from)
+      joined =
+          let more : i - from + (end - i) ≡ end - from = omega (arith, g.begun) in
+          ap (λ l. l ++ zeros (end - i)) g.passed
+          ∙ append_assoc (take from before) (zeros (i - from)) (zeros (end - i))
+          ∙ ap (λ l. take from before ++ l) (replicate-append-replicate (i - from) (end - i) 0 ∙ ap zeros more)

@@ -1,10 +1,9 @@
 -- What the search answers and leaves, in the meaning's words.
-use Rattle.std.specs.Prelude.{List, ◌++◌, cond, ℕ, ◌-◌, ◌*◌, ltb, length, take}
-use Rattle.meaning.specs.Limits.{set_words_lem, variable_count}
+use Rattle.std.specs.Prelude.{List, ◌++◌, ℕ, ◌-◌, ◌*◌, length, take}
+use Rattle.meaning.specs.Limits.{set_words_lem}
 use Rattle.meaning.specs.Calls.{gives, degrees, Matched, zeros}
 use Rattle.refusal.specs.Told.{refused_by}
 use Rattle.refusal.specs.declared.Refusal.{Refusal}
-use Rattle.refusal.specs.declared.Refusal.TheVariants.{NoForm}
 use Rattle.packing.specs.declared.Search.{Search}
 
 -- Refused so, with zeros in both buffers.
@@ -15,11 +14,7 @@ emptied why spans sets = record { answer = refused_by why; spans = zeros (length
 abbrev pub kept : Search → List ℕ → List ℕ → Matched
 kept found spans sets =
     record {
-      answer = gives (degrees found.lowest found.highest);
+      answer = gives (degrees found.degrees.lowest found.degrees.highest);
       spans = spans;
       sets = take (set_words_lem * found.packed) sets ++ zeros (length sets - set_words_lem * found.packed);
     }
-
--- What comes of packed variables.
-unfoldable pub outcome_of : Search → List ℕ → List ℕ → Matched
-outcome_of found spans sets = cond (ltb found.lacking variable_count) (emptied (NoForm found.lacking) spans sets) (kept found spans sets)
