@@ -1,12 +1,12 @@
 -- A bit that is set in one word of a symbol leaves every other bit and every other word as they were, and what is kept with the set can only
--- grow, so that a gathered set stays gathered.
-use mathlib.Core.Path.{◌≡◌, refl, sym as inv, ap, ap₂, ◌∙◌}
+-- grow.
+use mathlib.Core.Path.{◌≡◌, sym as inv, ap, ap₂, ◌∙◌}
 use mathlib.Core.List.{List}
-use mathlib.Core.Bool.{Bool, true, false, ◌&&◌, ◌||◌, cond, or-false}
+use mathlib.Core.Bool.{Bool, ◌&&◌, ◌||◌, cond, or-false}
 use Prim.Native.Nat.{ℕ, ◌+◌, ◌-◌, ◌*◌, ◌/◌, ◌%◌, ◌^◌, ◌≤◌, ◌<◌, max}
 use native.Mathlib.Decide.{ℕ_discrete}
 use native.Mathlib.Omega.{arith}
-use borrow.Author.Tests.{le-leb, lt-leb, eq-eqb, ne_eqb}
+use borrow.Author.Tests.{eq-eqb, ne_eqb}
 use lib.Dec.{eqb}
 use lib.Bits.{bit_or}
 use lib.ListN.{length, get_or, set, take, drop, length-set}
@@ -15,7 +15,7 @@ use Rattle.meaning.specs.Limits.{word_bits, set_words_lem, set_room}
 use Rattle.meaning.specs.Buffers.{bit, member}
 use Rattle.meaning.specs.Over.{over}
 use Rattle.sets.proofs.Word.{or_bit, bit_power}
-use Rattle.near.specs.Near.{near_words, in_row, kept, OwnJoined, Joined, PairJoined}
+use Rattle.near.specs.Near.{near_words, in_row, kept, OwnJoined, Joined}
 use Rattle.near.proofs.Laying.{laid, not_laid, words_hold}
 
 -- ---- in the words of one symbol
@@ -68,10 +68,6 @@ module _ (own : List ℕ) (k degree : ℕ) (room : near_words ≤ length own) (s
             other_word : (i : ℕ) → (i ≡ word_at → ⊥) → (i ≡ set_words_lem → ⊥) → get_or later i 0 ≡ get_or own i 0
             other_word i a b = get_or-set_other (set own word_at word) set_words_lem i far 0 b ∙ get_or-set_other own word_at i word 0 a
 
--- LAW: a set that is not gathered is left as it is
-pub own_left : (own : List ℕ) (k degree : ℕ) → get_or own set_words_lem 0 ≡ 1 → OwnJoined k degree own own
-own_left own k degree e = record { has = λ g. absurd (omega arith); far = λ g. absurd (omega arith) }
-
 -- ---- in a set among others
 
 -- the words of h, laid where they were once k has joined them
@@ -118,41 +114,3 @@ module _ (near : List ℕ) (h k degree : ℕ) (own : List ℕ) (room : near_word
           ∙ joins.far (omega (arith, last, ap (kept near) q))
           ∙ ap (λ (n : ℕ). max n (1002 - degree)) last)
       far p g (no q) = rw (ne_eqb p h q) (other p set_words_lem q (omega arith))
-
--- LAW: both symbols of a pair that reaches the cut, one after the other
-pub pair_joined : (cut lower higher degree : ℕ) (before middle after : List ℕ) → cut ≤ degree → Joined lower higher degree before middle → Joined higher lower degree middle after
-    → PairJoined cut lower higher degree before after
-pair_joined cut lower higher degree before middle after reaches one two =
-    record {
-      has = λ p j g l.
-          rw (le-leb cut degree reaches)
-          (two.has p j (stays p g) l
-          ∙ ap (λ (b : Bool). b || (eqb p higher && eqb j lower)) (one.has p j g l)
-          ∙ regroup (in_row before p j) (eqb p lower && eqb j higher) (eqb p higher && eqb j lower));
-      far = λ p g. rw (le-leb cut degree reaches) (two.far p (stays p g) ∙ rw (one.far p g) (twice (eqb p lower) (eqb p higher) (kept before p)));
-    }
-  where
-    stays : (p : ℕ) → 1 < kept before p → 1 < kept middle p
-    stays p g = go (eqb p lower) (one.far p g)
-      where
-        go : (b : Bool) → kept middle p ≡ cond b (max (kept before p) (1002 - degree)) (kept before p) → 1 < kept middle p
-        go true e = omega arith
-        go false e = omega arith
-
-    regroup : (a b c : Bool) → ((a || b) || c) ≡ (a || (b || c))
-    regroup true b c = refl
-    regroup false b c = refl
-
-    twice : (a b : Bool) (n : ℕ) → let e = 1002 - degree in cond b (max (cond a (max n e) n) e) (cond a (max n e) n) ≡ cond (a || b) (max n e) n
-    twice true true n = omega arith
-    twice true false n = refl
-    twice false true n = refl
-    twice false false n = refl
-
--- LAW: a pair that does not reach it
-pub pair_passed : (cut lower higher degree : ℕ) (near : List ℕ) → degree < cut → PairJoined cut lower higher degree near near
-pair_passed cut lower higher degree near below =
-    record {
-      has = λ p j g l. rw (lt-leb cut degree below) (inv (or-false (in_row near p j)));
-      far = λ p g. rw (lt-leb cut degree below);
-    }

@@ -9,7 +9,7 @@ use lib.Dec.{lit<}
 use lib.ListN.{get_or}
 use lib.Pow.{shl_exact}
 use Rattle.meaning.specs.Limits.{word_bits}
-use Rattle.near.proofs.Joining.{own_joined, own_left}
+use Rattle.near.proofs.Joining.{own_joined}
 use Rattle.near.proofs.join_own.Goals as goal
 
 pub returns-then-own-ne-NOT_GATHERED : goal.returns-then-own-ne-NOT_GATHERED
@@ -19,8 +19,3 @@ returns-then-own-ne-NOT_GATHERED c =
     own_joined a.own.now a.k a.degree c.requires.0 c.requires.1 _ _
     (ap (bit_or word) (shl_exact 1 (a.k % word_bits) word_bits (lit< tt) (omega arith) ∙ one-mul (2 ^ (a.k % word_bits))))
     c.max.ensures
-
-pub returns-else-own-ne-NOT_GATHERED : goal.returns-else-own-ne-NOT_GATHERED
-returns-else-own-ne-NOT_GATHERED c =
-    let a = c.args in
-    own_left a.own.now a.k a.degree c.if-own-ne-NOT_GATHERED.false

@@ -1,9 +1,7 @@
 -- Each symbol of the heading is alone in its set at first. After k turns its set is what the first k pairs make it.
 use mathlib.Core.Path.{◌≡◌, ◌∙◌}
-use mathlib.Core.Logic.{inl}
 use Prim.Native.Nat.{◌*◌, ◌≤◌}
 use native.Mathlib.Omega.{arith}
-use borrow.Author.Rules.{rules}
 use lib.ListN.{length}
 use Rattle.meaning.specs.File.{pair_count_lem, pair_at, table_in}
 use Rattle.meaning.specs.Tables.{pair_start, lower_at, higher_at, degree_at}
@@ -11,18 +9,9 @@ use Rattle.meaning.proofs.Bytes.{pair_in_lem}
 use Rattle.meaning.proofs.Sound.{sound}
 use Rattle.table.specs.Read.{pair_in}
 use Rattle.near.specs.Near.{near_words}
-use Rattle.near.proofs.Nearness.{near_none, near_next, near_all, pair_symbols}
+use Rattle.near.proofs.Nearness.{near_next, near_all, pair_symbols}
 use Rattle.near.proofs.near_sets.Goals as goal
 use Rattle.near.proofs.near_sets.Goals.{After-pair}
-
-pub open_sets-requires : goal.open_sets-requires
-open_sets-requires c i l =
-    let symbol = c.requires.by_index i l in
-    let few = (sound c.args.table.file.now c.args.table.sound).small in
-    (omega (arith, c.requires.fresh.room), inl (c.requires.fresh.none _ symbol), omega arith)
-
-pub loop-k-init : goal.loop-k-init
-loop-k-init c = (search rules, λ i l. near_none c.args.table.file.now c.args.cut _ _ (c.open_sets.ensures i l))
 
 -- the pair that was read is pair k
 read : (c : After-pair) → pair_in c.pair.result ≡ pair_at c.args.table.file.now (pair_start c.args.table.file.now c.loop-k.k)

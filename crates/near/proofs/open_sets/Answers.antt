@@ -1,20 +1,11 @@
 -- After some turns each of the symbols so far is alone in its set. A symbol that comes again is alone in it already, and stays so.
-use borrow.Author.Count.{below_none, below_more}
-use mathlib.Core.Path.{refl, ◌∙◌}
+use borrow.Author.Count.{below_more}
+use mathlib.Core.Path.{◌∙◌}
 use native.Mathlib.Omega.{arith}
 use lib.ListN.{get_or}
 use Rattle.near.specs.Near.{Opened}
 use Rattle.near.proofs.Opening.{still_alone, still_unpaired}
 use Rattle.near.proofs.open_sets.Goals as goal
-
-pub loop-symbol-init : goal.loop-symbol-init
-loop-symbol-init c = (refl, λ j l. (c.requires j l).1, below_none _)
-
-pub open-requires : goal.open-requires
-open-requires c =
-    let ready = c.requires c.loop-symbol.symbol-index (omega arith) in
-    let room = ready.0 in
-    (omega (arith, c.loop-symbol.invariant.0), ready.2)
 
 pub loop-symbol-preserved : goal.loop-symbol-preserved
 loop-symbol-preserved c =
