@@ -12,8 +12,8 @@ use Rattle.input.proofs.Unused.{length-unread, unread-none}
 use Rattle.marc.specs.Stream.{to_mark, as_said, size_of, coming_in, comes}
 use Rattle.marc.proofs.Streams.{mark_most, size_marked, coming_is}
 use Rattle.marc_input.specs.declared.rest.Rest.{Rest}
-use Rattle.marc_input.specs.declared.passing.Passed.TheVariants.{To, Endless}
-use Rattle.marc_input.specs.declared.cutting.Cut.TheVariants.{Whole, TooLong, Endless as EndlessCut}
+use Rattle.std.proofs.Common.{Some, None}
+use Rattle.marc_input.specs.declared.cutting.Cut.TheVariants.{Whole, TooLong, Endless}
 use Rattle.marc_input.specs.Rests.{Held, rest_in, MayFollow}
 use Rattle.marc_input.specs.Passing.{MarkBy, behind_mark, PassedBy}
 use Rattle.marc_input.specs.Cuts.{ComesBy, NotAsSaid, ToMarkBy}
@@ -94,7 +94,7 @@ module _ (before : List ℕ) (rest : Rest) (some : rest.at < rest.end) (held : H
       )
 
       -- LAW: the record is too long, and the rest of it is passed over
-      pub cut_passed : now.over ≡ false → (left : Rest) (last : List ℕ) → PassedBy behind_mark after (used_up now) (To left) last → ComesBy coming_in before rest (TooLong left) last
+      pub cut_passed : now.over ≡ false → (left : Rest) (last : List ℕ) → PassedBy behind_mark after (used_up now) (Some left) last → ComesBy coming_in before rest (TooLong left) last
       cut_passed goes_on left last p = record {
         more = t.more ++ p.more;
         read = read_on before rest t.more (used_up now) after (use_to before rest t.more now after t.read now.end (omega arith)) p.more left last p.read;
@@ -114,7 +114,7 @@ module _ (before : List ℕ) (rest : Rest) (some : rest.at < rest.end) (held : H
             );
       }
 
-      pub cut_endless : (last : List ℕ) → PassedBy behind_mark after (used_up now) Endless last → ComesBy coming_in before rest EndlessCut last
+      pub cut_endless : (last : List ℕ) → PassedBy behind_mark after (used_up now) None last → ComesBy coming_in before rest Endless last
       cut_endless last p = (
         t.more ++ p.0,
         follow_on before rest t.more now after t.read p.0 p.1,

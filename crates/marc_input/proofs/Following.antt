@@ -7,7 +7,7 @@ use native.Mathlib.Omega.{arith}
 use lib.Dec.{ltb}
 use lib.ListN.{length, length-append}
 use borrow.Author.Tests.{ltb-true, ltb-false}
-use Rattle.input.specs.declared.reading.Unread.{Unread}
+use Rattle.input.specs.declared.unread.Unread.{Unread}
 use Rattle.input.specs.Unreads.{ReadBy}
 use Rattle.input.proofs.Unused.{length-unread}
 use Rattle.marc_input.specs.declared.rest.Rest.{Rest}
@@ -47,19 +47,19 @@ module _ (before : List ℕ) (rest : Rest) (wanted : ℕ) where
   }
 
   -- LAW: so many bytes are there, or the input is over
-  pub filled : rest.over ≡ false → (read : Unread) (after : List ℕ) → length after ≡ length before → ReadBy before rest.at rest.end wanted read after
-      → FilledBy before rest wanted (record { at = read.at; end = read.end; over = ltb (read.end - read.at) wanted }) after
-  filled goes_on read after same r = record {
+  pub filled : rest.over ≡ false → (read : Unread) (over : Bool) (after : List ℕ) → length after ≡ length before → over ≡ ltb (read.end - read.at) wanted → ReadBy before rest.at rest.end wanted read after
+      → FilledBy before rest wanted (record { at = read.at; end = read.end; over = over }) after
+  filled goes_on read over after same few r = record {
     more = r.more;
     read = record {
-      held = (r.rising, omega (arith, r.within));
+      held = (read.ordered, omega (arith, r.within, same));
       same = same;
       may_follow = λ o. let z : ◌≡◌ {A = ℕ} 0 1 = cc in absurd (omega arith);
       stays_over = λ o. let z : ◌≡◌ {A = ℕ} 0 1 = cc in absurd (omega arith);
     };
     follows = r.follows;
-    enough = λ e. ltb-false (read.end - read.at) wanted e;
-    ended = λ _ e. ltb-true (read.end - read.at) wanted e;
+    enough = λ e. ltb-false (read.end - read.at) wanted (inv few ∙ e);
+    ended = λ _ e. ltb-true (read.end - read.at) wanted (inv few ∙ e);
   }
 
 module _ (before : List ℕ) (rest : Rest) (wanted : ℕ) (now : Rest) (after : List ℕ) (f : FilledBy before rest wanted now after) where

@@ -1,15 +1,16 @@
 -- Where no mark stands in some bytes, the next is as far behind them as it is in what follows; so marks are found byte by byte, or part by part.
-use mathlib.Core.Path.{◌≡◌, sym as inv, ap, subst, ◌∙◌}
+use mathlib.Core.Path.{◌≡◌, sym as inv, ap, ◌∙◌}
 use mathlib.Core.List.{List, [], ◌∷◌, ◌++◌, append_assoc}
-use Prim.Native.Nat.{ℕ, ◌+◌, ◌-◌, ◌≤◌, ◌<◌}
+use Prim.Native.Nat.{ℕ, suc, ◌+◌, ◌-◌, ◌≤◌, ◌<◌}
 use native.Mathlib.Omega.{arith}
 use native.Mathlib.Numerals.{add-one}
-use lib.ListN.{length, get_or, take, drop, length-append}
+use lib.ListN.{length, get_or, take, drop, length-append, take-append-drop}
 use lib.Seq.{drop-nil, drop-cons, drop-append-add, drop_at}
 use borrow.Author.Tests.{eq-eqb, ne_eqb}
 use Rattle.input.specs.Unreads.{unread}
 use Rattle.input.proofs.Unused.{length-unread, unread-none, unread_split}
 use Rattle.marc_record.proofs.Numbers.{left_suc}
+use Rattle.std.proofs.lemmas.List.{length-take-le, get_or-take}
 use Rattle.marc.specs.Frame.{record_mark}
 use Rattle.marc.specs.Stream.{to_mark}
 use Rattle.marc.proofs.Streams.{mark_some}
@@ -56,27 +57,32 @@ behind_none = drop-nil (to_mark [])
 pub no_mark_behind : (s : List ℕ) → NoMark s → (x : List ℕ) → behind_mark (s ++ x) ≡ behind_mark x
 no_mark_behind s m x = rw (m x) (drop-append-add s x (to_mark x))
 
+-- LAW: there is none where none stands at any place
+pub no_mark_all : (bytes : List ℕ) → ((k : ℕ) → k < length bytes → get_or bytes k 0 ≡ record_mark → ⊥) → NoMark bytes
+no_mark_all [] h = no_mark_none
+no_mark_all (b ∷ bs) h = no_mark_both (b ∷ []) bs (no_mark_one b (h 0 (omega arith))) (no_mark_all bs (λ k l. h (suc k) (omega arith)))
+
 -- ---- the first mark
 
-module _ (buffer : List ℕ) (from to i : ℕ) (rising : from ≤ i) (within : to ≤ length buffer) where
-  -- LAW: one byte more has none
-  pub no_mark_next : i < to → NoMark (unread buffer from i) → (get_or buffer i 0 ≡ record_mark → ⊥) → NoMark (unread buffer from (i + 1))
-  no_mark_next l m n =
-      let parts = unread_parts buffer from i (i + 1) rising (omega arith) ∙ ap (λ s. unread buffer from i ++ s) (unread_one buffer i (omega arith)) in
-      subst NoMark (inv parts) (no_mark_both (unread buffer from i) (get_or buffer i 0 ∷ []) m (no_mark_one (get_or buffer i 0) n))
+-- LAW: here it is
+pub mark_found : (bytes : List ℕ) (from to k : ℕ) → length bytes ≡ to - from → k < length bytes → get_or bytes k 0 ≡ record_mark → ((j : ℕ) → j < k → get_or bytes j 0 ≡ record_mark → ⊥)
+    → MarkBy bytes from to (from + k)
+mark_found bytes from to k long l e h = record {
+  rising = omega arith;
+  inside = omega arith;
+  marked = λ _ beyond.
+      ap (λ s. to_mark (s ++ beyond)) (inv (take-append-drop k bytes) ∙ ap (λ s. take k bytes ++ s) (drop-cons bytes k 0 l))
+      ∙ ap to_mark (append_assoc (take k bytes) (get_or bytes k 0 ∷ drop (suc k) bytes) beyond)
+      ∙ none (get_or bytes k 0 ∷ (drop (suc k) bytes ++ beyond))
+      ∙ omega (arith, mark_here (get_or bytes k 0) (drop (suc k) bytes ++ beyond) e, size);
+  unmarked = λ z. absurd (omega arith);
+}
+  where
+    size : length (take k bytes) ≡ k
+    size = length-take-le k bytes (omega arith)
 
-  -- LAW: here is the first
-  pub mark_found : i < to → NoMark (unread buffer from i) → get_or buffer i 0 ≡ record_mark → MarkBy (unread buffer from to) from to i
-  mark_found l m e = record {
-    rising = rising;
-    inside = omega arith;
-    marked = λ _ beyond.
-        ap (λ s. to_mark (s ++ beyond)) (unread_parts buffer from i to rising (omega arith) ∙ ap (λ s. unread buffer from i ++ s) (unread-first buffer i to l within))
-        ∙ ap to_mark (append_assoc (unread buffer from i) (get_or buffer i 0 ∷ unread buffer (i + 1) to) beyond)
-        ∙ m (get_or buffer i 0 ∷ (unread buffer (i + 1) to ++ beyond))
-        ∙ omega (arith, mark_here (get_or buffer i 0) (unread buffer (i + 1) to ++ beyond) e, length-unread buffer from i (omega arith));
-    unmarked = λ z. absurd (omega arith);
-  }
+    none : NoMark (take k bytes)
+    none = no_mark_all (take k bytes) (λ j m f. h j (omega (arith, size)) (inv (get_or-take k bytes j 0 (omega (arith, size))) ∙ f))
 
 -- LAW: there is none
 pub mark_none : (buffer : List ℕ) (from to : ℕ) → from ≤ to → NoMark (unread buffer from to) → MarkBy (unread buffer from to) from to to

@@ -11,7 +11,7 @@ use Rattle.input.proofs.Unused.{length-unread, unread-none}
 use Rattle.marc.specs.Stream.{is_break_lem, behind_breaks}
 use Rattle.marc.proofs.Streams.{break_goes, break_stays}
 use Rattle.marc_input.specs.declared.rest.Rest.{Rest}
-use Rattle.marc_input.specs.declared.passing.Passed.TheVariants.{Endless}
+use Rattle.std.proofs.Common.{None}
 use Rattle.marc_input.specs.Rests.{Held, rest_in, MayFollow, MoreBy, FilledBy}
 use Rattle.marc_input.specs.Passing.{uncounted, PassedTo, PassedBy}
 use Rattle.marc_input.proofs.Following.{nothing_more, read_on, use_to, filled_out}
@@ -73,7 +73,7 @@ module _ (behind : List ℕ → List ℕ) (before : List ℕ) (rest : Rest) wher
     }
 
     -- LAW: as many turns as can be counted passed over as many bytes
-    pub passing_endless : uncounted ≤ counter → PassedBy behind before rest Endless buffer
+    pub passing_endless : uncounted ≤ counter → PassedBy behind before rest None buffer
     passing_endless l = (p.more, p.read.may_follow, omega (arith, ap length p.all, length-append p.gone (rest_in buffer now), p.many))
 
 -- ---- no byte is there

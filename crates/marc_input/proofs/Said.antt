@@ -10,6 +10,7 @@ use lib.Dec.{eqb, leb}
 use lib.ListN.{length, get_or, take, drop, length-append, take-append-drop, get_or-append}
 use lib.Seq.{length-take-le, get_or-take, get_or-drop}
 use borrow.Author.Tests.{le-leb, leb-true, eqb-true, eqb-false}
+use Rattle.std.proofs.Common.{Some, None}
 use Rattle.theory.proofs.Lemmas.{and_left, and_right}
 use Rattle.input.specs.Unreads.{unread}
 use Rattle.input.proofs.Unused.{length-unread}
@@ -28,12 +29,9 @@ module _ (buffer : List ℕ) (rest : Rest) (held : Held buffer rest) where
   abbrev S : List ℕ
   S = rest_in buffer rest
 
-  nothing_said : NotAsSaid buffer rest → SaidBy buffer rest 0
-  nothing_said n = record { most = omega arith; not_said = λ _. n; says = λ l. absurd (omega arith) }
-
   -- LAW: the input is over before five bytes
-  pub said_short : (rest.over ≡ false → 5 ≤ rest.end - rest.at) → rest.end - rest.at < 5 → SaidBy buffer rest 0
-  said_short goes_on l = nothing_said (λ beyond may. not_digits (S ++ beyond) (by_digits beyond (may over) (digits_at (S ++ beyond) 0 5) refl))
+  pub said_short : (rest.over ≡ false → 5 ≤ rest.end - rest.at) → rest.end - rest.at < 5 → SaidBy buffer rest None
+  said_short goes_on l = λ beyond may. not_digits (S ++ beyond) (by_digits beyond (may over) (digits_at (S ++ beyond) 0 5) refl)
     where
       over : rest.over ≡ true
       over = by_over rest.over refl
@@ -75,21 +73,17 @@ module _ (buffer : List ℕ) (rest : Rest) (held : Held buffer rest) where
         ∙ ap (λ s. decimal_at s rest.at 5) (take-append-drop rest.at buffer)
 
     -- LAW: they are no digits
-    pub said_other : digits_at buffer rest.at 5 ≡ false → SaidBy buffer rest 0
-    said_other e = nothing_said (λ beyond may. not_digits (S ++ beyond) (digits_in beyond ∙ e))
+    pub said_other : digits_at buffer rest.at 5 ≡ false → SaidBy buffer rest None
+    said_other e = λ beyond may. not_digits (S ++ beyond) (digits_in beyond ∙ e)
 
     module _ (count : ℕ) (is : count ≡ decimal_at buffer rest.at 5) where
       -- LAW: they say too few
-      pub said_few : count < 26 → SaidBy buffer rest 0
-      said_few l = nothing_said (λ beyond may. too_few (S ++ beyond) (omega (arith, length_in_lem beyond)))
+      pub said_few : count < 26 → SaidBy buffer rest None
+      said_few l = λ beyond may. too_few (S ++ beyond) (omega (arith, length_in_lem beyond))
 
       -- LAW: they say so many
-      pub said_many : digits_at buffer rest.at 5 ≡ true → 26 ≤ count → SaidBy buffer rest count
-      said_many e l = record {
-        most = omega (arith, length_in_lem [], five_most (S ++ []) (digits_in [] ∙ e));
-        not_said = λ z. absurd (omega arith);
-        says = λ _. (l, λ beyond. (digits_in beyond ∙ e, length_in_lem beyond ∙ inv is));
-      }
+      pub said_many : digits_at buffer rest.at 5 ≡ true → 26 ≤ count → SaidBy buffer rest (Some count)
+      said_many e l = (omega (arith, length_in_lem [], five_most (S ++ []) (digits_in [] ∙ e)), l, λ beyond. (digits_in beyond ∙ e, length_in_lem beyond ∙ inv is))
 
 -- ---- whether it is so
 

@@ -6,6 +6,8 @@ use Prim.Native.Nat.{ℕ, ◌+◌, ◌-◌, ◌≤◌, ◌<◌}
 use native.Mathlib.Omega.{arith}
 use lib.ListN.{length, drop}
 use lib.Seq.{drop_at}
+use Rattle.std.proofs.Common.{Option, Some, None, unwrap_or, is_some}
+use Rattle.std.specs.Option.{IfSome}
 use Rattle.input.specs.Unreads.{unread}
 use Rattle.input.proofs.Unused.{length-unread}
 use Rattle.marc_input.specs.declared.rest.Rest.{Rest}
@@ -22,6 +24,15 @@ pub record Seeking (before : List ℕ) (rest : Rest) (buffer : List ℕ) (now : 
   pub inside : mark ≤ now.end
   pub unseen : mark ≡ now.end → NoMark (rest_in buffer now)
   pub seen : mark < now.end → NoMark (rest_in buffer now) → ⊥
+
+-- LAW: where no mark was found, and where one was
+pub none_found : (mark : Option ℕ) (end : ℕ) → is_some mark ≡ false → unwrap_or mark end ≡ end
+none_found None end e = refl
+none_found (Some m) end e = cc
+
+pub some_found : (mark : Option ℕ) (end : ℕ) → is_some mark ≡ true → IfSome mark (λ m. m < end) → unwrap_or mark end ≡ end → ⊥
+some_found None end e l q = cc
+some_found (Some m) end e l q = omega arith
 
 -- how often more can be read: not at all once the input is over
 abbrev pub reads_left : Rest → ℕ

@@ -1,5 +1,5 @@
 -- What comes next in the input, whatever may still follow.
-use Rattle.std.specs.Prelude.{◌≡◌, List, ◌++◌, Bool, true, false, ◌&&◌, ℕ, ◌+◌, ◌-◌, ◌≤◌, ◌<◌, eqb, leb, length, get_or}
+use Rattle.std.specs.Prelude.{◌≡◌, List, ◌++◌, Option, Some, None, Bool, true, false, ◌&&◌, ℕ, ◌+◌, ◌-◌, ◌≤◌, ◌<◌, eqb, leb, length, get_or}
 use Rattle.input.specs.Unreads.{unread}
 use Rattle.marc.specs.Frame.{record_mark, digits_at, record_length}
 use Rattle.marc.specs.Stream.{as_said, Coming, comes, no_more, next_in}
@@ -43,11 +43,10 @@ Says count bytes = (beyond : List ℕ) → (digits_at (bytes ++ beyond) 0 5 ≡ 
 abbrev pub NotAsSaid : List ℕ → Rest → Type 0
 NotAsSaid buffer rest = (beyond : List ℕ) → MayFollow rest beyond → as_said (rest_in buffer rest ++ beyond) ≡ false
 
--- So many bytes are said, or 0 where nothing is said that can be.
-pub record SaidBy (buffer : List ℕ) (rest : Rest) (count : ℕ) : Type 0 where
-  pub most : count ≤ most_bytes
-  pub not_said : count ≡ 0 → NotAsSaid buffer rest
-  pub says : 0 < count → (26 ≤ count) × Says count (rest_in buffer rest)
+-- So many bytes are said; or nothing is said that can be.
+abbrev pub SaidBy : List ℕ → Rest → Option ℕ → Type 0
+SaidBy buffer rest (Some count) = (count ≤ most_bytes) × (26 ≤ count) × Says count (rest_in buffer rest)
+SaidBy buffer rest None = NotAsSaid buffer rest
 
 -- So many bytes are there, with a mark at their end.
 abbrev pub ends_marked_lem : List ℕ → Rest → ℕ → Bool

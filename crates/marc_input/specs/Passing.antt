@@ -1,9 +1,7 @@
 -- What passing over comes to, whatever may still follow in the input.
-use Rattle.std.specs.Prelude.{◌≡◌, List, ◌++◌, ℕ, ◌+◌, ◌-◌, ◌≤◌, ◌<◌, length, drop}
+use Rattle.std.specs.Prelude.{◌≡◌, List, ◌++◌, Option, Some, None, ℕ, ◌+◌, ◌-◌, ◌≤◌, ◌<◌, length, drop}
 use Rattle.marc.specs.Stream.{to_mark}
 use Rattle.marc_input.specs.declared.rest.Rest.{Rest}
-use Rattle.marc_input.specs.declared.passing.Passed.{Passed}
-use Rattle.marc_input.specs.declared.passing.Passed.TheVariants.{To, Endless}
 use Rattle.marc_input.specs.Rests.{rest_in, MayFollow, MoreBy}
 
 -- No mark stands in these bytes: the next is in what follows.
@@ -31,6 +29,6 @@ pub record PassedTo (behind : List ℕ → List ℕ) (before : List ℕ) (rest n
   pub read : MoreBy before rest more now after
   pub leaves : (beyond : List ℕ) → MayFollow now beyond → behind ((rest_in before rest ++ more) ++ beyond) ≡ rest_in after now ++ beyond
 
-abbrev pub PassedBy : (List ℕ → List ℕ) → List ℕ → Rest → Passed → List ℕ → Type 0
-PassedBy behind before rest (To now) after = PassedTo behind before rest now after
-PassedBy behind before rest Endless after = (more : List ℕ) × MayFollow rest more × (uncounted ≤ length (rest_in before rest ++ more))
+abbrev pub PassedBy : (List ℕ → List ℕ) → List ℕ → Rest → Option Rest → List ℕ → Type 0
+PassedBy behind before rest (Some now) after = PassedTo behind before rest now after
+PassedBy behind before rest None after = (more : List ℕ) × MayFollow rest more × (uncounted ≤ length (rest_in before rest ++ more))

@@ -4,10 +4,10 @@ ghost use Rattle.marc.specs.Stream.{coming_in};
 ghost use Rattle.marc_input.specs.Rests.{Held, rest_in};
 ghost use Rattle.marc_input.specs.Cuts.{most_bytes, ComesBy, NextBy, Says, NotAsSaid, SaidBy, ToMarkBy, ends_marked_lem};
 
-use crate::passing::{Passed, find_mark, pass_breaks, pass_record};
+use crate::passing::{find_mark, pass_breaks, pass_record};
 use crate::rest::{Rest, fill};
 use marc_record::frame::RECORD_MARK;
-use marc_record::number::{digits, five};
+use marc_record::number::number;
 
 // No record has more bytes, and none has fewer.
 pub const MOST_BYTES: usize = 99999;
@@ -29,22 +29,19 @@ pub enum Cut {
     Endless,
 }
 
-// How many bytes a record says that it has; 0 where it says nothing that can be.
-fn said_length(buffer: &[u8], rest: Rest) -> usize
+// How many bytes a record says that it has, if that can be.
+fn said_length(buffer: &[u8], rest: Rest) -> Option<usize>
     requires { Held buffer.now rest × (rest.over ≡ false → 5 ≤ rest.end - rest.at) }
     ensures { SaidBy buffer.now rest result }
 {
     if rest.end - rest.at < LENGTH_DIGITS {
-        return 0;
+        return None;
     }
-    if !digits(buffer, rest.at, LENGTH_DIGITS) {
-        return 0;
-    }
-    let count = five(buffer, rest.at);
+    let count = number(&buffer[rest.at..rest.at + LENGTH_DIGITS])?;
     if count < FEWEST_BYTES {
-        return 0;
+        return None;
     }
-    count
+    Some(count)
 }
 
 // Reads until a mark is there, or more bytes than a record may have, or the input is over.
@@ -54,7 +51,7 @@ fn fill_to_mark(rt: HostRuntime, buffer: &mut [u8], rest: Rest) -> Rest
 {
     let mut now = rest;
     let mut mark = find_mark(buffer, now.at, now.end);
-    while mark == now.end && !now.over && now.end - now.at <= MOST_BYTES {
+    while mark.is_none() && !now.over && now.end - now.at <= MOST_BYTES {
         let seen = now.end - now.at;
         now = fill(rt, buffer, now, seen + 1);
         mark = find_mark(buffer, now.at + seen, now.end);
@@ -68,8 +65,7 @@ fn cut_at_mark(rt: HostRuntime, buffer: &mut [u8], rest: Rest) -> Cut
     ensures { ComesBy coming_in buffer.old rest result buffer.new }
 {
     let now = fill_to_mark(rt, buffer, rest);
-    let mark = find_mark(buffer, now.at, now.end);
-    if mark < now.end {
+    if let Some(mark) = find_mark(buffer, now.at, now.end) {
         return Cut::Whole(
             now.at,
             Rest {
@@ -88,8 +84,8 @@ fn cut_at_mark(rt: HostRuntime, buffer: &mut [u8], rest: Rest) -> Cut
         return Cut::Whole(now.at, used);
     }
     match pass_record(rt, buffer, used) {
-        Passed::To(left) => Cut::TooLong(left),
-        Passed::Endless => Cut::Endless,
+        Some(left) => Cut::TooLong(left),
+        None => Cut::Endless,
     }
 }
 
@@ -98,11 +94,7 @@ fn ends_marked(buffer: &[u8], rest: Rest, count: usize) -> bool
     requires { Held buffer.now rest × (1 ≤ count) }
     ensures { result ≡ ends_marked_lem buffer.now rest count }
 {
-    if rest.end - rest.at < count {
-        return false;
-    }
-    let last = rest.at + count - 1;
-    buffer[last] == RECORD_MARK
+    rest.end - rest.at >= count && buffer[rest.at + count - 1] == RECORD_MARK
 }
 
 // A record that says that it has so many bytes, if it is so.
@@ -130,18 +122,15 @@ pub fn next_record(rt: HostRuntime, buffer: &mut [u8], rest: Rest) -> Cut
     requires { Held buffer.old rest × (most_bytes < length buffer.old) }
     ensures { NextBy buffer.old rest result buffer.new }
 {
-    match pass_breaks(rt, buffer, rest) {
-        Passed::Endless => Cut::Endless,
-        Passed::To(begun) => {
-            let now = fill(rt, buffer, begun, LENGTH_DIGITS);
-            if now.at == now.end {
-                return Cut::Ended;
-            }
-            let count = said_length(buffer, now);
-            if count == 0 {
-                return cut_at_mark(rt, buffer, now);
-            }
-            cut_as_said(rt, buffer, now, count)
-        }
+    let Some(begun) = pass_breaks(rt, buffer, rest) else {
+        return Cut::Endless;
+    };
+    let now = fill(rt, buffer, begun, LENGTH_DIGITS);
+    if now.at == now.end {
+        return Cut::Ended;
+    }
+    match said_length(buffer, now) {
+        Some(count) => cut_as_said(rt, buffer, now, count),
+        None => cut_at_mark(rt, buffer, now),
     }
 }

@@ -2,7 +2,7 @@
 ghost use Rattle.std.specs.Prelude.{◌≤◌, length};
 ghost use Rattle.marc_input.specs.Rests.{Held, FilledBy};
 
-use input::reading::read_until;
+use input::reading::{Unread, read_until};
 
 // Where they stand in the buffer, and whether the input is over: then nothing more is read, even where more would come.
 #[derive(Clone, Copy)]
@@ -20,11 +20,14 @@ pub fn fill(rt: HostRuntime, buffer: &mut [u8], rest: Rest, wanted: usize) -> Re
     if rest.over {
         return rest;
     }
-    let unread = read_until(rt, buffer, rest.at, rest.end, wanted);
-    let over = unread.end - unread.at < wanted;
+    let kept = Unread {
+        at: rest.at,
+        end: rest.end,
+    };
+    let unread = read_until(rt, buffer, kept, wanted);
     Rest {
         at: unread.at,
         end: unread.end,
-        over,
+        over: unread.len() < wanted,
     }
 }

@@ -1,38 +1,26 @@
 -- The mark that was found, or that none is there.
-use mathlib.Core.Path.{subst}
-use native.Mathlib.Omega.{arith}
-use Rattle.marc_input.specs.Passing.{behind_mark, PassedBy}
-use Rattle.marc_input.proofs.Ends.{used_up, cut_marked, cut_ended, cut_passed, cut_endless}
+use Rattle.std.proofs.Common.{refl}
+use Rattle.marc_input.proofs.Ends.{cut_marked, cut_ended, cut_passed, cut_endless}
 use Rattle.marc_input.proofs.cutting.cut_at_mark.Goals as goal
 
-pub returns-then-mark-now : goal.returns-then-mark-now
-returns-then-mark-now c =
+pub returns-in-Some : goal.returns-in-Some
+returns-in-Some c =
     let fill = c.fill_to_mark-now in
-    let found = c.find_mark-mark in
-    cut_marked _ c.args.rest c.requires.1 c.requires.0 c.requires.3 fill.result fill.new.buffer fill.ensures found.result found.ensures
-    (omega arith)
+    let found = c.in-Some.ensures in
+    cut_marked _ c.args.rest c.requires.1 c.requires.0 c.requires.3 fill.result fill.new.buffer fill.ensures c.in-Some.mark found.1 found.0
 
 pub returns-then-now : goal.returns-then-now
 returns-then-now c =
     let fill = c.fill_to_mark-now in
-    let found = c.find_mark-mark in
-    cut_ended _ c.args.rest c.requires.1 c.requires.0 c.requires.3 fill.result fill.new.buffer fill.ensures found.result found.ensures
-    (omega (arith, found.ensures.inside)) c.if-now.true
+    cut_ended _ c.args.rest c.requires.1 c.requires.0 c.requires.3 fill.result fill.new.buffer fill.ensures fill.result.end c.in_default.ensures.1 refl c.if-now.true
 
-pub returns-in-To : goal.returns-in-To
-returns-in-To c =
+pub returns-in-Some-pass_record : goal.returns-in-Some-pass_record
+returns-in-Some-pass_record c =
     let fill = c.fill_to_mark-now in
-    let found = c.find_mark-mark in
-    let passed = c.pass_record in
-    cut_passed _ c.args.rest c.requires.1 c.requires.0 c.requires.3 fill.result fill.new.buffer fill.ensures found.result found.ensures
-    (omega (arith, found.ensures.inside)) c.if-now.false c.in-To.left passed.new.buffer
-    (subst (λ r. PassedBy behind_mark fill.new.buffer (used_up fill.result) r passed.new.buffer) c.in-To.is passed.ensures)
+    cut_passed _ c.args.rest c.requires.1 c.requires.0 c.requires.3 fill.result fill.new.buffer fill.ensures fill.result.end c.in_default.ensures.1 refl c.if-now.false
+    c.in-Some-pass_record.left c.pass_record.new.buffer c.in-Some-pass_record.ensures
 
-pub returns-in-Endless : goal.returns-in-Endless
-returns-in-Endless c =
+pub returns-in-None : goal.returns-in-None
+returns-in-None c =
     let fill = c.fill_to_mark-now in
-    let found = c.find_mark-mark in
-    let passed = c.pass_record in
-    cut_endless _ c.args.rest c.requires.1 c.requires.0 c.requires.3 fill.result fill.new.buffer fill.ensures found.result found.ensures
-    (omega (arith, found.ensures.inside)) passed.new.buffer
-    (subst (λ r. PassedBy behind_mark fill.new.buffer (used_up fill.result) r passed.new.buffer) c.in-Endless.is passed.ensures)
+    cut_endless _ c.args.rest c.requires.1 c.requires.0 c.requires.3 fill.result fill.new.buffer fill.ensures fill.result.end c.in_default.ensures.1 refl c.pass_record.new.buffer c.in-None.ensures

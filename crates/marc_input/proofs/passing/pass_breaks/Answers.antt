@@ -6,6 +6,7 @@ use native.Mathlib.Omega.{arith}
 use Rattle.marc.specs.Stream.{behind_breaks}
 use Rattle.marc_input.proofs.PassedOver.{passing_first, passing_fill, passing_on, passing_to, passing_endless, none_behind, no_break_none, break_passes, break_stops}
 use Rattle.marc_input.proofs.passing.pass_breaks.Goals as goal
+use Rattle.marc_input.proofs.passing.pass_breaks.Goals.{then-at-now-via-then-at-now, then-at-now-via-else-at-now+then-not-is_break}
 
 pub loop-init : goal.loop-init
 loop-init c = passing_first behind_breaks _ c.args.rest c.requires.0
@@ -22,22 +23,14 @@ returns-then-at-now c =
     let fill = c.fill-now in
     let p = passing_fill behind_breaks _ c.args.rest loop.buffer loop.now loop.counter loop.invariant 1 fill.result fill.new.buffer fill.ensures in
     passing_to behind_breaks _ c.args.rest fill.new.buffer fill.result loop.counter p fill.result.at fill.ensures.read.held.0
-    (none_behind loop.buffer loop.now fill.result fill.new.buffer fill.ensures (omega arith) behind_breaks no_break_none)
+    (elim c.then-at-now.branch [
+      | then-at-now-via-then-at-now w ↦ none_behind loop.buffer loop.now fill.result fill.new.buffer fill.ensures (omega arith) behind_breaks no_break_none
+      | then-at-now-via-else-at-now+then-not-is_break w ↦ λ beyond may. break_stops fill.new.buffer fill.result.at fill.result.end (omega (arith, fill.ensures.read.held.0)) fill.ensures.read.held.1
+          (sym w.is_break.ensures ∙ w.if-not-is_break.true) beyond
+    ])
 
 pub bounds-buffer-at : goal.bounds-buffer-at
 bounds-buffer-at c = let read = c.fill-now.ensures.read in omega (arith, read.held)
-
-pub shape_of-buffer-then-not-is_break : goal.shape_of-buffer-then-not-is_break
-shape_of-buffer-then-not-is_break c = c.fill-now.auto.buffer ∙ c.loop.invariant.read.same
-
-pub returns-then-not-is_break : goal.returns-then-not-is_break
-returns-then-not-is_break c =
-    let loop = c.loop in
-    let fill = c.fill-now in
-    let p = passing_fill behind_breaks _ c.args.rest loop.buffer loop.now loop.counter loop.invariant 1 fill.result fill.new.buffer fill.ensures in
-    passing_to behind_breaks _ c.args.rest fill.new.buffer fill.result loop.counter p fill.result.at fill.ensures.read.held.0
-    (λ beyond may. break_stops fill.new.buffer fill.result.at fill.result.end (omega (arith, fill.ensures.read.held.0)) fill.ensures.read.held.1
-    (sym c.is_break.ensures ∙ c.if-not-is_break.true) beyond)
 
 pub overflow_add-now : goal.overflow_add-now
 overflow_add-now c = let read = c.fill-now.ensures.read in search (rules, read.held)

@@ -26,32 +26,32 @@ returns-then-now c =
     passing_to behind_mark _ c.args.rest fill.new.buffer fill.result loop.counter p fill.result.at fill.ensures.read.held.0
     (none_behind loop.buffer loop.now fill.result fill.new.buffer fill.ensures (omega arith) behind_mark behind_none)
 
-pub find_mark-mark-requires : goal.find_mark-mark-requires
-find_mark-mark-requires c = c.fill-now.ensures.read.held
+pub find_mark-requires : goal.find_mark-requires
+find_mark-requires c = c.fill-now.ensures.read.held
 
 pub overflow_add-now : goal.overflow_add-now
 overflow_add-now c = let read = c.fill-now.ensures.read in search (rules, read.held)
 
-pub shape_of-buffer-then-mark-now : goal.shape_of-buffer-then-mark-now
-shape_of-buffer-then-mark-now c = c.fill-now.auto.buffer ∙ c.loop.invariant.read.same
+pub shape_of-buffer-in-Some : goal.shape_of-buffer-in-Some
+shape_of-buffer-in-Some c = c.fill-now.auto.buffer ∙ c.loop.invariant.read.same
 
-pub returns-then-mark-now : goal.returns-then-mark-now
-returns-then-mark-now c =
+pub returns-in-Some : goal.returns-in-Some
+returns-in-Some c =
     let loop = c.loop in
     let fill = c.fill-now in
     let p = passing_fill behind_mark _ c.args.rest loop.buffer loop.now loop.counter loop.invariant 1 fill.result fill.new.buffer fill.ensures in
-    let found = c.find_mark-mark in
-    passing_to behind_mark _ c.args.rest fill.new.buffer fill.result loop.counter p (found.result + 1) (omega arith)
-    (λ beyond may. mark_leaves fill.new.buffer fill.result.at fill.result.end found.result found.ensures fill.ensures.read.held.1 (omega arith) beyond)
+    let mark = c.in-Some.mark in
+    let found = c.in-Some.ensures in
+    passing_to behind_mark _ c.args.rest fill.new.buffer fill.result loop.counter p (mark + 1) (omega (arith, found.0))
+    (λ beyond may. mark_leaves fill.new.buffer fill.result.at fill.result.end mark found.1 fill.ensures.read.held.1 found.0 beyond)
 
 pub loop-preserved : goal.loop-preserved
 loop-preserved c =
     let loop = c.loop in
     let fill = c.fill-now in
     let p = passing_fill behind_mark _ c.args.rest loop.buffer loop.now loop.counter loop.invariant 1 fill.result fill.new.buffer fill.ensures in
-    let found = c.find_mark-mark in
     passing_on behind_mark _ c.args.rest fill.new.buffer fill.result loop.counter p fill.result.end (omega (arith, fill.ensures.read.held.0)) (omega arith)
-    (no_mark_behind (rest_in fill.new.buffer fill.result) (found.ensures.unmarked (omega (arith, found.ensures.inside))))
+    (no_mark_behind (rest_in fill.new.buffer fill.result) (c.in_default.ensures.1.unmarked (omega arith)))
 
 pub shape_of-buffer : goal.shape_of-buffer
 shape_of-buffer c = c.loop.invariant.read.same
