@@ -2,7 +2,6 @@
 -- adds up.
 use mathlib.Core.Path.{◌≡◌, refl, sym, ap, ap₂, subst, ◌∙◌}
 use mathlib.Core.List.{List, [], ◌++◌, append-nil, append_assoc}
-use mathlib.Core.Bool.{Bool, true, false}
 use Prim.Native.Nat.{ℕ, ◌+◌, ◌≤◌, ◌<◌}
 use native.Mathlib.Omega.{arith}
 use lib.ListN.{length, take, drop, length-append, drop_of_length-le}
@@ -15,7 +14,7 @@ use Rattle.text.specs.Texts.{PutBy}
 use Rattle.lines.specs.Lines.{line_room}
 use Rattle.output.specs.declared.pending.Pending.{Pending}
 use Rattle.output.specs.declared.pending.Failed.{Failed}
-use Rattle.output.specs.Pendings.{Passed, HasRoom, Said, HandedOver, Settled, Roomy}
+use Rattle.output.specs.Pendings.{Passed, HasRoom, Said, HandedOver, Roomy}
 
 -- LAW: a text that is put behind what stands there
 pub passed_put : {a b : Text} {text : List ℕ} → PutBy a text b → Passed a.buffer.now a.used text 0 b.used b.buffer.now
@@ -48,11 +47,6 @@ passed_out {before} {used} {written} {end} l (all, none) =
       same = refl;
       stands = ap (λ n. take n before) none ∙ sym (drop_of_length-le stood short);
     }
-
--- LAW: nothing is said where one settles what stands there
-pub passed_settled : (before : List ℕ) (used : ℕ) (waits : Bool) (p : Pending) → used ≤ length before → Settled used waits (Ok p) → Passed before used [] p.written p.standing before
-passed_settled before used true p l all = passed_out l all
-passed_settled before used false p l (none, same) = rw (none, same) (passed_none l)
 
 -- LAW: where there is no room for a line, and then there is
 pub said_out : (before : List ℕ) (used : ℕ) (r : Result Pending Failed) → used ≤ length before → length before < used + line_room → line_room ≤ length before → HandedOver used r
@@ -101,10 +95,6 @@ module _ (before : List ℕ) (used : ℕ) (t₁ t₂ mid after : List ℕ) (insi
         subst (λ n. Passed before used (t₁ ++ t₂) r.written n after) (sym stands) (passed_then inside said.0 passed e),
         λ room. omega (arith, (none_before room).0),
       )
-
-  -- LAW: a write that failed was one for want of room
-  pub said_then_failed : (failed : Failed) → Said mid p.standing t₂ (Err failed) after → Said before used (t₁ ++ t₂) (Err failed) after
-  said_then_failed failed second = λ room. second (none_before room).1
 
 -- LAW: where the first could not be written, nothing more is said
 pub said_failed : (before : List ℕ) (used : ℕ) (t₁ t₂ mid after : List ℕ) (failed : Failed) → Said before used t₁ (Err failed) mid → Said before used (t₁ ++ t₂) (Err failed) after

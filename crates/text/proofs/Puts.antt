@@ -1,12 +1,12 @@
 -- Texts that are put one behind the other are one text, and a number's digits are those that the library writes.
-use mathlib.Core.Path.{◌≡◌, refl, sym, ap, ap₂, ◌∙◌}
+use mathlib.Core.Path.{◌≡◌, refl, sym, ap, ◌∙◌}
 use mathlib.Core.List.{List, [], ◌∷◌, ◌++◌, append_assoc, append-nil}
 use mathlib.Core.Bool.{Bool, true, false, cond}
 use Prim.Native.Nat.{ℕ, zero, suc, ◌+◌, ◌-◌, ◌/◌, ◌%◌, ◌^◌, ◌≤◌, ◌<◌}
 use native.Mathlib.Nat.{add-zero}
 use native.Mathlib.Omega.{arith}
 use lib.ListN.{length, take, drop, length-append}
-use lib.Seq.{take_at, take_all}
+use lib.Seq.{take_all}
 use lib.Dec.{ltb}
 use borrow.Author.Tests.{lt-ltb, le-ltb}
 use borrow.Rule.Slice.PartMut.{put_mid}
@@ -15,7 +15,7 @@ use Rattle.std.proofs.lemmas.Fmt.{PrependsLastDigit, decimal_from_prepends, leng
 use Rattle.std.proofs.lemmas.Slice.{put_mid-paste}
 use Rattle.meaning.specs.Over.{over}
 use Rattle.meaning.specs.Program.{digits}
-use Rattle.meaning.proofs.Over.{over_none, over_next, over_front}
+use Rattle.meaning.proofs.Over.{over_none, over_next}
 use Rattle.text.specs.declared.Text.{Text}
 use Rattle.text.specs.Texts.{PutBy, numeral, long_numeral}
 
@@ -33,12 +33,6 @@ put_then {a} {b} {d} {xs} {ys} p q =
       ends = omega (arith, p.ends, q.ends);
       written = over_next a.buffer.now a.used xs (length xs) ys p.written f refl (omega (arith, p.ends, p.room, b.inside));
     }
-
--- LAW: what is put at the front is read back there
-pub put_front : (a : Text) (text : List ℕ) (b : Text) → a.used ≡ 0 → PutBy a text b → take b.used b.buffer.now ≡ text
-put_front a text b z p =
-    let e : b.used ≡ length text = omega (arith, p.ends) in
-    ap₂ take e (p.written ∙ ap (λ i. over a.buffer.now i text) z ∙ over_front a.buffer.now text) ∙ take_at text (drop (length text) a.buffer.now) (length text) refl
 
 -- LAW: a part of a buffer is written over
 pub over_part : (at k : ℕ) (a ys zs : List ℕ) → ys ≡ zs → length zs ≡ k → put_mid at k a ys ≡ over a at zs
