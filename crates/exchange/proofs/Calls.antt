@@ -1,46 +1,38 @@
 -- The call's answer and its output, by what was found.
-use mathlib.Core.Path.{◌≡◌, refl, ◌∙◌}
+use mathlib.Core.Path.{◌≡◌, subst, ◌∙◌}
+use Rattle.std.specs.Prelude.{Result, Ok, Err}
+use Rattle.std.specs.Result.{IsErrAnd}
 use mathlib.Core.List.{List, [], ◌∷◌, ◌++◌}
 use mathlib.Core.Option.{none, some as just}
 use Prim.Native.Nat.{ℕ, ◌≤◌, ◌<◌}
-use native.Mathlib.Omega.{arith}
 use borrow.Author.Tests.{lt-ltb, le-ltb}
-use lib.ListN.{length, set, drop}
+use lib.ListN.{length, drop}
 use Rattle.meaning.specs.Refusals.{refusal, row, first, row8-output}
 use Rattle.marc.specs.Known.{Known, known_in, row19}
 use Rattle.marc.specs.Heading.{heading_rows, heading_of, headed, later_nodes}
-use Rattle.known_strings.specs.Checks.{MayHalve, CheckedAs}
-use Rattle.known_strings.specs.declared.check.Checked.{Checked}
-use Rattle.known_strings.specs.declared.check.Checked.TheVariants.{Bad, Rising, Unordered}
+use Rattle.known_strings.specs.Checks.{CheckedAs}
+use Rattle.known_strings.specs.declared.tested.Tested.{Tested}
 use Rattle.exchange.specs.Said.{told}
 use Rattle.exchange.specs.Looking.{record_rows, RecordLooks}
 use Rattle.exchange.specs.Heading.{ReadHeading}
 use Rattle.exchange.specs.declared.Fault.{Fault}
-use Rattle.exchange.specs.declared.Headed.TheVariants.{Written, Refused}
-use Rattle.exchange.specs.declared.Looked.TheVariants.{Nodes}
 
--- LAW: what is said of a list that has no bad entry
-pub no_bad : (text ends numbers : List ℕ) (absent : ℕ) (checked : Checked) → ((entry : ℕ) → checked ≡ Bad entry → ⊥) → CheckedAs text ends numbers absent checked
-    → (row19 (known_in text ends numbers) absent ≡ row 19 none) × MayHalve text ends numbers checked
-no_bad text ends numbers absent (Bad entry) n h = absurd (n entry refl)
-no_bad text ends numbers absent Rising n h = h
-no_bad text ends numbers absent Unordered n h = (h, tt)
-
--- three stores
-pub stored : (l : List ℕ) (a b c : ℕ) → 3 ≤ length l → set (set (set l 0 a) 1 b) 2 c ≡ (a ∷ b ∷ c ∷ []) ++ drop 3 l
-stored [] a b c m = absurd (omega arith)
-stored (x ∷ []) a b c m = absurd (omega arith)
-stored (x ∷ y ∷ []) a b c m = absurd (omega arith)
-stored (x ∷ y ∷ z ∷ l) a b c m = refl
+-- LAW: what holds of the list that was tested holds of each that the test's answer is on
+pub by_list : (t : Tested) (P : List ℕ → List ℕ → List ℕ → ℕ → Type 0) → P t.known.text.now t.known.ends.now t.known.numbers.now t.absent
+    → (text ends numbers : List ℕ) (absent : ℕ) → CheckedAs text ends numbers absent (Ok t) → P text ends numbers absent
+by_list t P p text ends numbers absent h =
+    subst (P text ends numbers) h.3 (subst (λ n. P text ends n t.absent) h.2 (subst (λ e. P text e t.known.numbers.now t.absent) h.1 (subst (λ x. P x t.known.ends.now t.known.numbers.now t.absent) h.0 p)))
 
 module _ (bytes text ends numbers : List ℕ) (heading absent : ℕ) (nodes : List ℕ) where
   abbrev ks : List Known
   ks = known_in text ends numbers
 
   -- LAW: a refusal that the rows give is the answer, and leaves the output
-  pub refuses : (why : Fault) → first (heading_rows bytes ks heading absent nodes) ≡ just (told why) → ReadHeading bytes text ends numbers heading absent nodes (Refused why) nodes
+  pub refuses : (why fault : Fault) (r : Result (Unit {0}) Fault) → IsErrAnd r (λ e. e ≡ why) → why ≡ fault → first (heading_rows bytes ks heading absent nodes) ≡ just (told fault)
+      → ReadHeading bytes text ends numbers heading absent nodes r nodes
   unfolding headed later_nodes
-  refuses why e = record { answers = rw e; leaves = rw e }
+  refuses why fault (Ok done) p is e = absurd p
+  refuses why fault (Err x) p is e = rw (p, is) (record { answers = rw e; leaves = rw e })
 
   -- LAW: 19
   pub bad_list : (entry : ℕ) → row19 ks absent ≡ row 19 (just entry) → first (heading_rows bytes ks heading absent nodes) ≡ just (refusal 19 entry)
@@ -60,12 +52,12 @@ module _ (bytes text ends numbers : List ℕ) (heading absent : ℕ) (nodes : Li
       rows_left = rw (list_fine, le-ltb (length nodes) 3 room)
 
       -- LAW: no row holds: the three nodes
-      pub writes : (name dates : ℕ) → RecordLooks bytes ks absent (Nodes name dates)
-          → ReadHeading bytes text ends numbers heading absent nodes Written (set (set (set nodes 0 heading) 1 name) 2 dates)
+      pub writes : (name dates : ℕ) → RecordLooks bytes ks absent (Ok (record { name = name; dates = dates }))
+          → ReadHeading bytes text ends numbers heading absent nodes (Ok tt) ((heading ∷ name ∷ dates ∷ []) ++ drop 3 nodes)
       unfolding headed later_nodes heading_of
       writes name dates h =
           let e = rows_left ∙ h.0 in
-          record { answers = rw e; leaves = stored nodes heading name dates room ∙ go e }
+          record { answers = rw e; leaves = go e }
         where
           go : first (heading_rows bytes ks heading absent nodes) ≡ none → (heading ∷ name ∷ dates ∷ []) ++ drop 3 nodes ≡ later_nodes bytes ks heading absent nodes
           go e = rw (e, h.1, h.2)

@@ -1,17 +1,15 @@
 -- The rows that are tested in a record and in its field, and what the code finds by them: the two numbers, or the first refusal.
-use Rattle.std.specs.Prelude.{◌≡◌, List, [], ◌∷◌, ◌++◌, ℕ}
-use Rattle.std.proofs.Math.Option.{Option, none, some as just}
+use Rattle.std.specs.Prelude.{◌≡◌, List, [], ◌∷◌, ◌++◌, Result, Ok, Err, ℕ}
+use Rattle.std.proofs.Math.Option.{none, some as just}
 use Rattle.theory.specs.Least.{or_else}
 use Rattle.meaning.specs.Refusals.{Row, row, at0, first}
 use Rattle.marc.specs.Frame.{frame_rows, at_if}
 use Rattle.marc.specs.Subfields.{subfield}
-use Rattle.marc.specs.Known.{Known, number_in}
+use Rattle.marc.specs.Known.{Known}
 use Rattle.marc.specs.Heading.{code_a, code_d, missing, name_in, dates_in, unlisted, node_of, row20, row21, row22}
 use Rattle.exchange.specs.Said.{told}
-use Rattle.exchange.specs.declared.Part.{Part}
-use Rattle.exchange.specs.declared.Part.TheVariants.{Absent, Unlisted, Number}
-use Rattle.exchange.specs.declared.Looked.{Looked}
-use Rattle.exchange.specs.declared.Looked.TheVariants.{Nodes, Refused}
+use Rattle.exchange.specs.declared.Fault.{Fault}
+use Rattle.exchange.specs.declared.Numbers.{Numbers}
 
 -- 21 and 22, of a field's bytes
 unfoldable pub name_rows : List ℕ → List Known → List Row
@@ -24,19 +22,13 @@ name_rows content ks =
 unfoldable pub record_rows : List ℕ → List Known → List Row
 record_rows r ks = frame_rows r ++ (row20 r ∷ row21 r ∷ row22 ks r ∷ [])
 
--- What stands under a code: nothing, or a string that is not listed, or one with a number.
-abbrev pub PartIs : List Known → Option (List ℕ) → Part → Type 0
-PartIs ks o Absent = o ≡ none
-PartIs ks o Unlisted = (string : List ℕ) × (o ≡ just string) × (number_in ks string ≡ none)
-PartIs ks o (Number n) = (string : List ℕ) × (o ≡ just string) × (number_in ks string ≡ just n)
-
 -- What is found: no row holds, and these are the two numbers; or the first row that holds.
-abbrev pub Looks : List Row → ℕ → ℕ → Looked → Type 0
-Looks rows name dates (Nodes a b) = (first rows ≡ none) × (a ≡ name) × (b ≡ dates)
-Looks rows name dates (Refused why) = first rows ≡ just (told why)
+abbrev pub Looks : List Row → ℕ → ℕ → Result Numbers Fault → Type 0
+Looks rows name dates (Ok found) = (first rows ≡ none) × (found.name ≡ name) × (found.dates ≡ dates)
+Looks rows name dates (Err why) = first rows ≡ just (told why)
 
-abbrev pub FieldLooks : List ℕ → List Known → ℕ → Looked → Type 0
+abbrev pub FieldLooks : List ℕ → List Known → ℕ → Result Numbers Fault → Type 0
 FieldLooks content ks absent = Looks (name_rows content ks) (node_of ks absent (subfield code_a content)) (node_of ks absent (subfield code_d content))
 
-abbrev pub RecordLooks : List ℕ → List Known → ℕ → Looked → Type 0
+abbrev pub RecordLooks : List ℕ → List Known → ℕ → Result Numbers Fault → Type 0
 RecordLooks r ks absent = Looks (record_rows r ks) (node_of ks absent (name_in r)) (node_of ks absent (dates_in r))

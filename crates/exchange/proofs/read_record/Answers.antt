@@ -1,50 +1,38 @@
 -- The frame decides first, then whether there is a 100 field, then what it has.
-use mathlib.Core.Path.{◌≡◌, sym, ap, subst, ◌∙◌}
-use mathlib.Core.Option.{none, some as just}
-use Prim.Native.Nat.{◌-◌, ◌≤◌}
-use lib.ListN.{length, take, drop}
-use Rattle.meaning.specs.Refusals.{first}
-use Rattle.marc.specs.Frame.{frame_rows}
-use Rattle.marc.specs.Known.{known_in}
+use mathlib.Core.Path.{◌≡◌, sym}
+use mathlib.Core.Option.{some as just}
 use Rattle.marc.specs.Heading.{field100}
-use Rattle.marc_record.specs.Frames.{found_at}
-use Rattle.marc_record.specs.Spans.{Inside, bytes_of}
-use Rattle.exchange.proofs.Names.{no_frame, no_field, looks_in}
+use Rattle.known_strings.specs.Lent.{listed}
+use Rattle.exchange.specs.Looking.{record_rows}
+use Rattle.exchange.specs.declared.Fault.TheVariants.{Frame, NoField}
+use Rattle.exchange.proofs.Names.{fault_named, fault_of, value_of, leaves, no_frame, no_field, looks_in}
 use Rattle.exchange.proofs.read_record.Goals as goal
-use Rattle.exchange.proofs.read_record.Goals.{In-Nowhere, In-Of}
+use Rattle.exchange.proofs.read_record.Goals.{In_ok-frame}
 
-framed : (c : goal.In-Nowhere) → first (frame_rows c.args.bytes.now) ≡ none
-framed c = sym c.check_frame.ensures ∙ ap found_at c.in-Nowhere.is
+-- the frame is that of the record
+framed : (c : goal.In_ok-frame) → c.in_ok-frame.frame.bytes.now ≡ c.args.bytes.now
+framed c = rw (value_of c.check_frame.result c.map_err.result Frame c.map_err.ensures.cases c.in_ok-frame.frame c.in_ok-frame.was) at c.check_frame.ensures
 
-inside : (c : goal.In-Of) → (c.in-Of.start ≤ c.in-Of.end) × (c.in-Of.end ≤ length c.args.bytes.now)
-inside c = subst (Inside c.args.bytes.now) c.in-Of.is c.find_100.ensures.1
-
-found : (c : goal.In-Of)
-    → let r = c.args.bytes.now in
-    field100 r ≡ just (take (c.in-Of.end - c.in-Of.start) (drop c.in-Of.start r))
-found c = sym c.find_100.ensures.0 ∙ ap (bytes_of c.args.bytes.now) c.in-Of.is
-
-pub find_100-requires : goal.find_100-requires
-find_100-requires c = framed (goal.at.find_100-requires c).In-Nowhere
-
-pub slice_bounds-read_field-count : goal.slice_bounds-read_field-count
-slice_bounds-read_field-count c = (inside (goal.at.slice_bounds-read_field-count c).In-Of).0
-
-pub returns-in-At : goal.returns-in-At
-returns-in-At c =
-    let a = c.args in
-    let ks = known_in a.text.now a.ends.now a.numbers.now in
-    no_frame a.bytes.now ks _ (ap found_at (sym c.in-At.is) ∙ c.check_frame.ensures)
-
-pub returns-in-Missing : goal.returns-in-Missing
-returns-in-Missing c =
-    let a = c.args in
-    let ks = known_in a.text.now a.ends.now a.numbers.now in
+pub returns-in_err-frame : goal.returns-in_err-frame
+returns-in_err-frame c =
     let r = c.args.bytes.now in
-    no_field r ks (framed (goal.at.returns-in-Missing c).In-Nowhere) (sym c.find_100.ensures.0 ∙ ap (bytes_of r) c.in-Missing.is)
+    let ks = listed c.args.tested.known in
+    let f = fault_of c.check_frame.result c.map_err.result Frame c.map_err.ensures.cases c.in_err-frame.field-0.0 c.in_err-frame.was in
+    leaves (record_rows r ks) _ _ c.in_err-frame.field-0.0 (Frame f.0) c.from_residual.result c.from_residual.ensures.1 f.2
+    (no_frame r ks f.0 (rw f.1 at c.check_frame.ensures))
 
-pub returns-in-Of : goal.returns-in-Of
-returns-in-Of c =
-    let a = c.args in
-    let ks = known_in a.text.now a.ends.now a.numbers.now in
-    looks_in a.bytes.now ks (framed (goal.at.returns-in-Of c).In-Nowhere) _ (found (goal.at.returns-in-Of c).In-Of) a.given.absent c.read_field.result c.read_field.ensures
+pub returns-in_err-field : goal.returns-in_err-field
+returns-in_err-field c =
+    let r = c.args.bytes.now in
+    let ks = listed c.args.tested.known in
+    let same = framed (goal.at.returns-in_err-field c).In_ok-frame in
+    leaves (record_rows r ks) _ _ c.in_err-field.field-0.0 NoField c.from_residual-in_err-field.result c.from_residual-in_err-field.ensures.1
+    (fault_named c.find_100.result c.in_err-field.field-0.0 NoField c.in_err-field.ensures.value)
+    (rw (← same) (no_field c.in_ok-frame.frame.bytes.now ks c.in_ok-frame.frame.whole (sym (rw c.in_err-field.ensures.ok_part at c.find_100.ensures))))
+
+pub returns : goal.returns
+returns c =
+    let ks = listed c.args.tested.known in
+    let same = framed (goal.at.returns c).In_ok-frame in
+    let field : field100 c.in_ok-frame.frame.bytes.now ≡ just c.in_ok-field.field.now = sym (rw c.in_ok-field.ensures.ok_part at c.find_100.ensures) in
+    rw (← same) (looks_in c.in_ok-frame.frame.bytes.now ks c.in_ok-frame.frame.whole _ field c.args.tested.absent c.read_field.result c.read_field.ensures)
