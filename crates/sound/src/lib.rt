@@ -20,10 +20,13 @@ fn well_placed(file: &[u8], symbols: usize, pairs: usize) -> bool
     ensures { row1_offsets file.now ≡ row 1 (at0 (not result)) }
 {
     let total = 10 + symbols + 6 * pairs;
-    number_at(file, 4) == 10
-        && number_at(file, 6) as usize == 10 + symbols
-        && number_at(file, 8) as usize == total
-        && total == file.len()
+    if number_at(file, 4) != 10 || number_at(file, 6) as usize != 10 + symbols {
+        return false;
+    }
+    if number_at(file, 8) as usize != total {
+        return false;
+    }
+    total == file.len()
 }
 
 // Whether the arities and the pairs keep the rules, in a file that is laid out as its counts ask for. A place in a list fits 16 bits since the
