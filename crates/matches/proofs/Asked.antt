@@ -2,30 +2,30 @@
 -- the buffers as they were, and otherwise the search answers.
 use mathlib.Core.Path.{◌≡◌, sym as inv, ap, ◌∙◌}
 use mathlib.Core.List.{List, [], ◌∷◌}
-use mathlib.Core.Bool.{true, false, not}
+use mathlib.Core.Bool.{true, false, ◌||◌, not, false≢true}
 use mathlib.Core.Option.{Option, none, some as just}
-use Prim.Native.Nat.{ℕ, ◌<◌}
+use Prim.Native.Nat.{ℕ, ◌≤◌, ◌<◌}
 use native.Mathlib.Decide.{dec_lt}
 use native.Mathlib.Omega.{arith}
 use lib.Dec.{ltb, leb}
-use borrow.Author.Tests.{lt-ltb, le-ltb, lt-leb, le-leb}
+use borrow.Author.Tests.{lt-ltb, le-ltb, lt-leb, le-leb, ltb-false}
 use Rattle.theory.specs.Table.{Table}
-use Rattle.theory.specs.Read.{whole, faulty, reading}
+use Rattle.std.specs.Prelude.{Result, Ok, Err, is_ok, MatchResult}
+use Rattle.std.specs.Result.{IsErrAnd}
+use Rattle.theory.specs.Read.{Reading, whole, faulty, reading}
 use Rattle.meaning.specs.File.{table_in}
-use Rattle.meaning.specs.Refusals.{Refusal as Given, refusal, row, first, row5, row8, table_rows, SoundFile}
+use Rattle.meaning.specs.Refusals.{Refusal as Given, refusal, row, row_place, first, row5, row8, table_rows, SoundFile}
 use Rattle.meaning.specs.Calls.{refused_as, input_rows, match_call}
-use Rattle.meaning.specs.Demands.{Accepted}
 use Rattle.meaning.proofs.First.{first-append}
 use Rattle.meaning.proofs.Compose.{by_input}
+use Rattle.meaning.proofs.Sound.{at0-none}
+use Rattle.theory.proofs.Lemmas.{both_false}
 use Rattle.refusal.specs.declared.Refusal.{Refusal}
+use Rattle.refusal.specs.declared.Degrees.{Degrees}
 use Rattle.refusal.specs.Told.{told}
-use Rattle.sound.specs.Found.{found}
-use Rattle.sound.specs.declared.Checked.{Checked}
-use Rattle.sound.specs.declared.Checked.TheVariants.{Sound, Refused}
+use Rattle.terms.specs.Readings.{reading_in}
 use Rattle.terms.proofs.Readings.{row6_is, row7_is}
 use Rattle.refusal.specs.Outcomes.{result_of}
-use Rattle.refusal.specs.declared.Outcome.{Outcome}
-use Rattle.refusal.specs.declared.Outcome.TheVariants.{Refused as NoMatch}
 use Rattle.matches.specs.Matching.{MatchHeading, asked_rows}
 use Rattle.sound.proofs.Checks.{stays_refused}
 
@@ -36,6 +36,26 @@ below_not a b = go (dec_lt a b)
     go : Dec (a < b) → ltb a b ≡ not (leb b a)
     go (yes l) = rw (lt-ltb a b l, lt-leb b a l)
     go (no l) = rw (le-ltb a b (omega arith), le-leb b a (omega arith))
+
+-- LAW: a cut that is not refused is a degree above 0
+pub cut_degree : (cut : ℕ) → row5 cut ≡ row 5 none → (0 < cut) × (cut ≤ 1000)
+unfolding row5
+cut_degree cut e =
+    let u = both_false (ltb cut 1) (ltb 1000 cut) (at0-none (ltb cut 1 || ltb 1000 cut) (ap row_place e)) in
+    (ltb-false cut 1 u.0, ltb-false 1000 cut u.1)
+
+-- ---- a list's fault, made into a refusal
+
+-- LAW: a list was read whole where none was made
+pub read_whole : {A : Type 0} (r : Result A ℕ) (m : Result A Refusal) {w : Reading} {a : A} → reading_in r ≡ w → is_ok m ≡ is_ok r → m ≡ Ok a → w ≡ whole
+read_whole (Ok b) m e v is = inv e
+read_whole (Err i) m e v is = absurd (false≢true (inv v ∙ ap is_ok is))
+
+-- LAW: one that was made names the fault's place
+pub faulty_where : {A : Type 0} (r : Result A ℕ) (m : Result A Refusal) (named : ℕ → Refusal) {w : Reading} {why : Refusal} → reading_in r ≡ w
+    → MatchResult r (λ x. m ≡ Ok x) (λ e. IsErrAnd m (λ f. f ≡ named e)) → m ≡ Err why → (place : ℕ) × (w ≡ faulty place) × (why ≡ named place)
+faulty_where {A = A} (Ok a) m named e cases is = absurd (cc (cases, is))
+faulty_where (Err i) m named e cases is = (i, inv e, rw is at cases)
 
 module _ (table pattern heading : List ℕ) (cut : ℕ) (spans sets : List ℕ) where
   abbrev T : Table
@@ -82,19 +102,15 @@ module _ (table pattern heading : List ℕ) (cut : ℕ) (spans sets : List ℕ) 
   -- ---- the call
 
   -- LAW: the promise is what the meaning has for the match
-  pub promised : (r : Outcome) (spans' sets' : List ℕ) → result_of r spans' sets' ≡ match_call table pattern heading cut spans sets
+  pub promised : (r : Result Degrees Refusal) (spans' sets' : List ℕ) → result_of r spans' sets' ≡ match_call table pattern heading cut spans sets
       → MatchHeading table pattern heading cut spans sets r spans' sets'
   promised r spans' sets' e = record { answers = ap (λ m. m.answer) e; spans_later = ap (λ m. m.spans) e; sets_later = ap (λ m. m.sets) e }
 
-  module _ (r : Checked) (e : found r ≡ first (input_rows table pattern heading cut spans sets)) where
-    -- LAW: what passes the tests is searched
-    pub accepted_by : r ≡ Sound → Accepted table pattern heading cut spans sets
-    accepted_by q = inv e ∙ ap found q
-
-    -- LAW: a refusal leaves the buffers as they were
-    pub refused_promise : (why : Refusal) → r ≡ Refused why → MatchHeading table pattern heading cut spans sets (NoMatch why) spans sets
-    refused_promise why q = promised (NoMatch why) spans sets (inv (go (told why) (inv e ∙ ap found q)))
-      where
-        go : (g : Given) → first (input_rows table pattern heading cut spans sets) ≡ just g
-            → match_call table pattern heading cut spans sets ≡ record { answer = refused_as g; spans = spans; sets = sets }
-        go (refusal n place) e = by_input table pattern heading cut spans sets n place e
+  -- LAW: a refusal leaves the buffers as they were
+  pub refused_promise : (why : Refusal) → first (input_rows table pattern heading cut spans sets) ≡ just (told why)
+      → MatchHeading table pattern heading cut spans sets (Err why) spans sets
+  refused_promise why e = promised (Err why) spans sets (inv (go (told why) e))
+    where
+      go : (g : Given) → first (input_rows table pattern heading cut spans sets) ≡ just g
+          → match_call table pattern heading cut spans sets ≡ record { answer = refused_as g; spans = spans; sets = sets }
+      go (refusal n place) e = by_input table pattern heading cut spans sets n place e

@@ -3,9 +3,8 @@ use mathlib.Core.List.{List}
 use mathlib.Core.Bool.{Bool, true, false, cond}
 use Prim.Native.Nat.{ℕ, ◌+◌, ◌*◌, ◌≤◌}
 use native.Mathlib.Omega.{arith}
-use borrow.Author.Tests.{le-leb}
 use lib.Dec.{leb}
-use lib.ListN.{length, replicate, length-replicate, get_or-replicate}
+use lib.ListN.{replicate, length-replicate, get_or-replicate}
 use Rattle.theory.specs.Table.{Table}
 use Rattle.meaning.specs.Limits.{set_words_lem}
 use Rattle.meaning.specs.File.{pair_count_lem, table_in}
@@ -27,10 +26,6 @@ kept_most true n = omega arith
 kept_most false n = omega arith
 
 -- LAW: an index for so many symbols and pairs
-pub index_room_lem : (file : List ℕ) (s p n : ℕ) → (table_in file).size ≤ s → pair_count_lem file ≤ p → 3 * s + 1 + p + kept_rows * (s + 1) ≤ n → index_room file ≤ length (replicate {A = ℕ} n 1)
+pub index_room_lem : (file : List ℕ) (s p n : ℕ) → (table_in file).size ≤ s → pair_count_lem file ≤ p → 3 * s + 1 + p + kept_rows * (s + 1) ≤ n → index_room file ≤ n
 index_room_lem file s p n a b enough =
-    omega (arith, length-replicate {A = ℕ} n 1, kept_most (leb (table_in file).size small_table) (kept_rows * ((table_in file).size + 1)))
-
--- LAW: .. for so few that nothing is kept
-pub small_index_room : (file : List ℕ) (s p n : ℕ) → (table_in file).size ≤ s → s ≤ small_table → pair_count_lem file ≤ p → 3 * s + 1 + p ≤ n → index_room file ≤ length (replicate {A = ℕ} n 1)
-small_index_room file s p n a few b enough = rw (le-leb (table_in file).size small_table (omega arith)) (omega (arith, length-replicate {A = ℕ} n 1))
+    omega (arith, kept_most (leb (table_in file).size small_table) (kept_rows * ((table_in file).size + 1)))

@@ -1,18 +1,19 @@
 // The match in memory of its own size, for input that is accepted: near sets and the index of the pairs by the table's size, and notes by the pattern's
 // length. Neither grows with the other, so that a small pattern does not pay for what only a large one needs, nor a small table for a large one's.
-ghost use Rattle.std.specs.Prelude.{◌≡◌, true, ◌≤◌, length};
-ghost use Rattle.meaning.specs.File.{pair_count_lem, table_in};
+ghost use Rattle.std.specs.Prelude.{◌≡◌, true, ◌*◌, ◌≤◌, length};
+ghost use Rattle.table.specs.Sound.{table_of};
 ghost use Rattle.meaning.specs.Calls.{match_call};
 ghost use Rattle.meaning.specs.Demands.{Accepted};
-ghost use Rattle.near.specs.Near.{Fresh};
+ghost use Rattle.near.specs.Near.{near_words};
 ghost use Rattle.wide.specs.Index.{index_room};
 ghost use Rattle.refusal.specs.Outcomes.{result_of};
 
 use matching::search::search;
 use near::{NEAR_WORDS, NOT_GATHERED};
-use refusal::Outcome;
+use refusal::{Degrees, Refusal};
 use sets::SymbolSet;
-use table::read::{Counts, counts_of};
+use table::sound_table::SoundTable;
+use terms::asked::Asked;
 use wide::{KEPT_ROWS, SMALL_TABLE};
 
 // What stands in memory before it is written. Nothing reads it; it is no 0, since zeros are laid byte by byte where other numbers are laid by
@@ -64,183 +65,64 @@ const FEW_NOTES: usize = 2 * FEW_NODES;
 
 const ALL_NOTES: usize = 2 * 1024;
 
-// The match with notes for a small pattern.
-fn with_few_notes(
-    table: &[u8],
-    pattern: &[u16],
-    heading: &[u16],
-    cut: u16,
-    near: &mut [u64],
-    index: &mut [u16],
+// The match in memory for near sets of so many words, for an index of so many numbers, and for so many notes.
+fn search_in<const NEAR: usize, const INDEX: usize, const NOTES: usize>(
+    asked: Asked,
     spans: &mut [u16],
     sets: &mut [u64],
-) -> Outcome
-    requires pattern_len_bound { length pattern.now ≤ 64 }
-    requires accepted { Accepted table.now pattern.now heading.now cut spans.old sets.old }
-    requires fresh { Fresh (table_in table.now) near.old × (index_room table.now ≤ length index.old) }
-    ensures { result_of result spans.new sets.new ≡ match_call table.now pattern.now heading.now cut spans.old sets.old }
+) -> Result<Degrees, Refusal>
+    requires of_near { (near_words * (table_of asked.table).size ≤ NEAR) × (NEAR ≤ 65536) }
+    requires of_index { (index_room asked.table.file.now ≤ INDEX) × (INDEX ≤ 65536) }
+    requires of_notes { (2 * length asked.pattern.now ≤ NOTES) × (NOTES ≤ 65536) }
+    requires accepted { Accepted asked.table.file.now asked.pattern.now asked.heading.now asked.cut spans.old sets.old }
+    ensures { result_of result spans.new sets.new ≡ match_call asked.entry.table.file.now asked.entry.pattern.now asked.entry.heading.now asked.entry.cut spans.old sets.old }
 {
-    let mut notes = [UNWRITTEN; FEW_NOTES];
-    let mut own = [UNWRITTEN; FEW_NOTES];
+    let mut near = [NOT_GATHERED; NEAR];
+    let mut index = [UNWRITTEN; INDEX];
+    let mut notes = [UNWRITTEN; NOTES];
+    let mut own = [UNWRITTEN; NOTES];
     search(
-        table, pattern, heading, cut, near, index, &mut notes, &mut own, spans, sets,
-    )
-}
-
-// The match with notes for any pattern.
-fn with_all_notes(
-    table: &[u8],
-    pattern: &[u16],
-    heading: &[u16],
-    cut: u16,
-    near: &mut [u64],
-    index: &mut [u16],
-    spans: &mut [u16],
-    sets: &mut [u64],
-) -> Outcome
-    requires accepted { Accepted table.now pattern.now heading.now cut spans.old sets.old }
-    requires fresh { Fresh (table_in table.now) near.old × (index_room table.now ≤ length index.old) }
-    ensures { result_of result spans.new sets.new ≡ match_call table.now pattern.now heading.now cut spans.old sets.old }
-{
-    let mut notes = [UNWRITTEN; ALL_NOTES];
-    let mut own = [UNWRITTEN; ALL_NOTES];
-    search(
-        table, pattern, heading, cut, near, index, &mut notes, &mut own, spans, sets,
-    )
-}
-
-// The match with notes for its pattern, in memory that has room for its table.
-fn search_in(
-    table: &[u8],
-    pattern: &[u16],
-    heading: &[u16],
-    cut: u16,
-    near: &mut [u64],
-    index: &mut [u16],
-    spans: &mut [u16],
-    sets: &mut [u64],
-) -> Outcome
-    requires accepted { Accepted table.now pattern.now heading.now cut spans.old sets.old }
-    requires fresh { Fresh (table_in table.now) near.old × (index_room table.now ≤ length index.old) }
-    ensures { result_of result spans.new sets.new ≡ match_call table.now pattern.now heading.now cut spans.old sets.old }
-{
-    if pattern.len() <= FEW_NODES {
-        with_few_notes(table, pattern, heading, cut, near, index, spans, sets)
-    } else {
-        with_all_notes(table, pattern, heading, cut, near, index, spans, sets)
-    }
-}
-
-// The match over a small table.
-fn over_small(
-    table: &[u8],
-    pattern: &[u16],
-    heading: &[u16],
-    cut: u16,
-    spans: &mut [u16],
-    sets: &mut [u64],
-) -> Outcome
-    requires table_bound { ((table_in table.now).size ≤ 16) × (pair_count_lem table.now ≤ 128) }
-    requires accepted { Accepted table.now pattern.now heading.now cut spans.old sets.old }
-    ensures { result_of result spans.new sets.new ≡ match_call table.now pattern.now heading.now cut spans.old sets.old }
-{
-    let mut near = [NOT_GATHERED; FEW_NEAR];
-    let mut index = [UNWRITTEN; FEW_INDEX];
-    search_in(
-        table, pattern, heading, cut, &mut near, &mut index, spans, sets,
-    )
-}
-
-// The match over a modest table.
-fn over_modest(
-    table: &[u8],
-    pattern: &[u16],
-    heading: &[u16],
-    cut: u16,
-    spans: &mut [u16],
-    sets: &mut [u64],
-) -> Outcome
-    requires table_bound { ((table_in table.now).size ≤ 64) × (pair_count_lem table.now ≤ 512) }
-    requires accepted { Accepted table.now pattern.now heading.now cut spans.old sets.old }
-    ensures { result_of result spans.new sets.new ≡ match_call table.now pattern.now heading.now cut spans.old sets.old }
-{
-    let mut near = [NOT_GATHERED; SOME_NEAR];
-    let mut index = [UNWRITTEN; SOME_INDEX];
-    search_in(
-        table, pattern, heading, cut, &mut near, &mut index, spans, sets,
-    )
-}
-
-// The match over a table that is not yet large.
-fn over_middling(
-    table: &[u8],
-    pattern: &[u16],
-    heading: &[u16],
-    cut: u16,
-    spans: &mut [u16],
-    sets: &mut [u64],
-) -> Outcome
-    requires table_bound { (table_in table.now).size ≤ 256 }
-    requires accepted { Accepted table.now pattern.now heading.now cut spans.old sets.old }
-    ensures { result_of result spans.new sets.new ≡ match_call table.now pattern.now heading.now cut spans.old sets.old }
-{
-    let mut near = [NOT_GATHERED; MORE_NEAR];
-    let mut index = [UNWRITTEN; MORE_INDEX];
-    search_in(
-        table, pattern, heading, cut, &mut near, &mut index, spans, sets,
-    )
-}
-
-// The match over any table.
-fn over_any(
-    table: &[u8],
-    pattern: &[u16],
-    heading: &[u16],
-    cut: u16,
-    spans: &mut [u16],
-    sets: &mut [u64],
-) -> Outcome
-    requires { Accepted table.now pattern.now heading.now cut spans.old sets.old }
-    ensures { result_of result spans.new sets.new ≡ match_call table.now pattern.now heading.now cut spans.old sets.old }
-{
-    let mut near = [NOT_GATHERED; ALL_NEAR];
-    let mut index = [UNWRITTEN; ALL_INDEX];
-    search_in(
-        table, pattern, heading, cut, &mut near, &mut index, spans, sets,
+        asked, &mut near, &mut index, &mut notes, &mut own, spans, sets,
     )
 }
 
 // Whether a table has no more symbols and no more pairs than these.
-fn has_at_most(counts: Counts, symbols: u16, pairs: u16) -> bool
-    ensures { result ≡ true → (counts.symbols ≤ symbols) × (counts.pairs ≤ pairs) }
+fn has_at_most(table: SoundTable, symbols: u16, pairs: u16) -> bool
+    ensures { result ≡ true → (table.entry.symbols ≤ symbols) × (table.entry.pairs ≤ pairs) }
 {
-    if counts.symbols > symbols {
-        return false;
+    table.symbols <= symbols && table.pairs <= pairs
+}
+
+// The match with so many notes, and in memory of its table's size.
+fn search_noted<const NOTES: usize>(
+    asked: Asked,
+    spans: &mut [u16],
+    sets: &mut [u64],
+) -> Result<Degrees, Refusal>
+    requires of_notes { (2 * length asked.pattern.now ≤ NOTES) × (NOTES ≤ 65536) }
+    requires accepted { Accepted asked.table.file.now asked.pattern.now asked.heading.now asked.cut spans.old sets.old }
+    ensures { result_of result spans.new sets.new ≡ match_call asked.entry.table.file.now asked.entry.pattern.now asked.entry.heading.now asked.entry.cut spans.old sets.old }
+{
+    let table = asked.table;
+    if has_at_most(table, FEW_SYMBOLS, FEW_PAIRS) {
+        search_in::<FEW_NEAR, FEW_INDEX, NOTES>(asked, spans, sets)
+    } else if has_at_most(table, SOME_SYMBOLS, SOME_PAIRS) {
+        search_in::<SOME_NEAR, SOME_INDEX, NOTES>(asked, spans, sets)
+    } else if table.symbols <= MORE_SYMBOLS {
+        search_in::<MORE_NEAR, MORE_INDEX, NOTES>(asked, spans, sets)
+    } else {
+        search_in::<ALL_NEAR, ALL_INDEX, NOTES>(asked, spans, sets)
     }
-    counts.pairs <= pairs
 }
 
 // The match in memory of its own size.
-pub fn search_sound(
-    table: &[u8],
-    pattern: &[u16],
-    heading: &[u16],
-    cut: u16,
-    spans: &mut [u16],
-    sets: &mut [u64],
-) -> Outcome
-    requires { Accepted table.now pattern.now heading.now cut spans.old sets.old }
-    ensures { result_of result spans.new sets.new ≡ match_call table.now pattern.now heading.now cut spans.old sets.old }
+pub fn search_sound(asked: Asked, spans: &mut [u16], sets: &mut [u64]) -> Result<Degrees, Refusal>
+    requires { Accepted asked.table.file.now asked.pattern.now asked.heading.now asked.cut spans.old sets.old }
+    ensures { result_of result spans.new sets.new ≡ match_call asked.entry.table.file.now asked.entry.pattern.now asked.entry.heading.now asked.entry.cut spans.old sets.old }
 {
-    let counts = counts_of(table);
-    if has_at_most(counts, FEW_SYMBOLS, FEW_PAIRS) {
-        return over_small(table, pattern, heading, cut, spans, sets);
+    if asked.pattern.len() <= FEW_NODES {
+        search_noted::<FEW_NOTES>(asked, spans, sets)
+    } else {
+        search_noted::<ALL_NOTES>(asked, spans, sets)
     }
-    if has_at_most(counts, SOME_SYMBOLS, SOME_PAIRS) {
-        return over_modest(table, pattern, heading, cut, spans, sets);
-    }
-    if counts.symbols <= MORE_SYMBOLS {
-        return over_middling(table, pattern, heading, cut, spans, sets);
-    }
-    over_any(table, pattern, heading, cut, spans, sets)
 }
