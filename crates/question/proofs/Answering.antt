@@ -12,8 +12,9 @@ use Rattle.meaning.specs.Refusals.{row, row12}
 use Rattle.meaning.specs.Calls.{zeros}
 use Rattle.meaning.specs.Program.{numbers_from, cut_in, pattern_in, heading_in, table_bytes}
 use Rattle.matches.specs.Matching.{MatchHeading}
-use Rattle.refusal.specs.declared.Outcome.{Outcome}
-use Rattle.refusal.specs.declared.Outcome.TheVariants.{Refused}
+use Rattle.std.specs.Prelude.{Result, Err}
+use Rattle.refusal.specs.declared.Degrees.{Degrees}
+use Rattle.refusal.specs.declared.Refusal.{Refusal}
 use Rattle.refusal.specs.declared.Refusal.TheVariants.{Misshapen}
 use Rattle.lines.proofs.Spans.{zeros_spanned}
 use Rattle.shape.specs.Rooms.{room_for}
@@ -53,7 +54,7 @@ module _ (input : List ℕ) where
       ∙ sym (room_some input (omega (arith, nodes_inside input e)))
 
   -- LAW: what the match says is the answer
-  pub answered : {table pattern heading spans sets spans' sets' : List ℕ} {cut : ℕ} (outcome : Outcome) → row12 input ≡ row 12 none → room_for input ≤ length sets
+  pub answered : {table pattern heading spans sets spans' sets' : List ℕ} {cut : ℕ} (outcome : Result Degrees Refusal) → row12 input ≡ row 12 none → room_for input ≤ length sets
       → table ≡ table_bytes input → pattern ≡ take 1025 (pattern_in input) → heading ≡ take 1025 (heading_in input) → cut ≡ cut_in input
       → spans ≡ blank → MatchHeading table pattern heading cut spans sets outcome spans' sets' → AnsweredBy input outcome spans' sets'
   answered {sets = sets} outcome e room its-table its-pattern its-heading its-cut clear given =
@@ -68,6 +69,6 @@ module _ (input : List ℕ) where
       }
 
   -- LAW: a misshapen question's answer
-  pub answered_misshapen : (sets : List ℕ) → row12 input ≡ row 12 (just 0) → AnsweredBy input (Refused Misshapen) blank sets
+  pub answered_misshapen : (sets : List ℕ) → row12 input ≡ row 12 (just 0) → AnsweredBy input (Err Misshapen) blank sets
   answered_misshapen sets e =
       record { text_is = sym (output-misshapen input e); spanned = zeros_spanned (span_width * variable_count) sets (omega arith) }

@@ -24,8 +24,9 @@ use Rattle.meaning.specs.Buffers.{first_position_lem, position_count_lem, bit, h
 use Rattle.meaning.specs.Program.{decimal, line, variable_lines, refused_text, cut_in, pattern_in, heading_in, table_bytes, asked, text_unless, output}
 use Rattle.meaning.proofs.Bits.{get_or_zeros}
 use Rattle.meaning.proofs.Compose.{by_input, by_search, by_answer}
-use Rattle.refusal.specs.declared.Outcome.{Outcome}
-use Rattle.refusal.specs.declared.Outcome.TheVariants.{Match}
+use Rattle.std.specs.Prelude.{Result, Ok}
+use Rattle.refusal.specs.declared.Degrees.{Degrees}
+use Rattle.refusal.specs.declared.Refusal.{Refusal as Why}
 use Rattle.refusal.specs.Outcomes.{result_of}
 use Rattle.lines.specs.Lines.{text_in, outcome_line, variable_line, symbols_line, upward}
 use Rattle.lines.proofs.Rest.{some_lines, no_lines}
@@ -85,7 +86,7 @@ module _ (sets : List ℕ) (m n : ℕ) where
       let same : (k : ℕ) → holds (sets ++ zeros m) p k ≡ holds (sets ++ zeros n) p k = λ k. ap (bit (k % word_bits)) (padded sets (set_words_lem * p + k / word_bits)) in
       ap (λ f. line (map decimal (collect set_room f))) (fun_ext same)
 
-  same_lines : (outcome : Outcome) (spans : List ℕ) (v : ℕ) → variable_lines (result_of outcome spans (sets ++ zeros m)) v ≡ variable_lines (result_of outcome spans (sets ++ zeros n)) v
+  same_lines : (outcome : Result Degrees Why) (spans : List ℕ) (v : ℕ) → variable_lines (result_of outcome spans (sets ++ zeros m)) v ≡ variable_lines (result_of outcome spans (sets ++ zeros n)) v
   same_lines outcome spans v = go (dec_lt 0 (position_count_lem spans v))
     where
       go : Dec (0 < position_count_lem spans v) → variable_lines (result_of outcome spans (sets ++ zeros m)) v ≡ variable_lines (result_of outcome spans (sets ++ zeros n)) v
@@ -96,9 +97,9 @@ module _ (sets : List ℕ) (m n : ℕ) where
           ∙ sym (some_lines outcome spans (sets ++ zeros n) v l)
       go (no l) = no_lines outcome spans (sets ++ zeros m) v (omega arith) ∙ sym (no_lines outcome spans (sets ++ zeros n) v (omega arith))
 
-  same_text : (low high : ℕ) (spans : List ℕ) → text_in (result_of (Match low high) spans (sets ++ zeros m)) ≡ text_in (result_of (Match low high) spans (sets ++ zeros n))
+  same_text : (low high : ℕ) (spans : List ℕ) → let outcome : Result Degrees Why = Ok (record { lowest = low; highest = high }) in text_in (result_of outcome spans (sets ++ zeros m)) ≡ text_in (result_of outcome spans (sets ++ zeros n))
   unfolding outcome_line
-  same_text low high spans = ap (λ f. outcome_line (Match low high) ++ through variable_count f) (fun_ext (same_lines (Match low high) spans))
+  same_text low high spans = let outcome : Result Degrees Why = Ok (record { lowest = low; highest = high }) in ap (λ f. outcome_line outcome ++ through variable_count f) (fun_ext (same_lines outcome spans))
 
 -- ---- other memory, and lists that are cut
 

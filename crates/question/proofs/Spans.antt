@@ -19,7 +19,7 @@ use Rattle.meaning.specs.Calls.{zeros, later, faces_in, match_rows, later_spans,
 use Rattle.meaning.proofs.Packing.{span_at}
 use Rattle.meaning.proofs.Loop.{span_within}
 use Rattle.meaning.proofs.Lengths.{rooms, lengths}
-use Rattle.lines.specs.Lines.{Spanned}
+use Rattle.lines.specs.Spans.{Spanned}
 use Rattle.lines.proofs.Spans.{ending, zero_ending}
 
 packed_ending : (T : Table) (cut : ℕ) (fs : List Face) (rest : List ℕ) (v : ℕ) → v < variable_count → ending (packed_spans T cut fs ++ rest) v ≤ packed_count fs

@@ -7,13 +7,18 @@ ghost use Rattle.shape.specs.Rooms.{room_for};
 ghost use Rattle.question.specs.Answers.{AnsweredBy};
 
 use matches::match_heading;
-use refusal::{Outcome, Refusal};
+use refusal::{Degrees, Refusal};
 use shape::nodes::copy_nodes;
-use shape::parts::{Header, Shape, take_apart};
+use shape::parts::{Header, take_apart};
 use shape::room::LONGEST;
 
 // The answer to a question with this header.
-fn answer_asked(input: &[u8], header: Header, spans: &mut [u16], sets: &mut [u64]) -> Outcome
+fn answer_asked(
+    input: &[u8],
+    header: Header,
+    spans: &mut [u16],
+    sets: &mut [u64],
+) -> Result<Degrees, Refusal>
     requires header_by { HeaderBy input.now header }
     requires spans_value { (spans.old ≡ zeros (span_width * variable_count)) × (room_for input.now ≤ length sets.old) }
     ensures { AnsweredBy input.now result spans.new sets.new }
@@ -35,12 +40,12 @@ fn answer_asked(input: &[u8], header: Header, spans: &mut [u16], sets: &mut [u64
 }
 
 // The answer to a question. The lines of its text are read from the outcome, the spans and the sets.
-pub fn answer(input: &[u8], spans: &mut [u16], sets: &mut [u64]) -> Outcome
+pub fn answer(input: &[u8], spans: &mut [u16], sets: &mut [u64]) -> Result<Degrees, Refusal>
     requires { (spans.old ≡ zeros (span_width * variable_count)) × (room_for input.now ≤ length sets.old) }
     ensures { AnsweredBy input.now result spans.new sets.new }
 {
-    match take_apart(input) {
-        Shape::Misshapen => Outcome::Refused(Refusal::Misshapen),
-        Shape::Question(header) => answer_asked(input, header, spans, sets),
-    }
+    let Some(header) = take_apart(input) else {
+        return Err(Refusal::Misshapen);
+    };
+    answer_asked(input, header, spans, sets)
 }

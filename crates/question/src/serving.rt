@@ -9,7 +9,8 @@ ghost use Rattle.output.specs.Titles.{title_text};
 ghost use Rattle.question.specs.Answers.{ServedBy};
 
 use crate::answer::answer;
-use output::pending::{Pending, put_answer, with_written};
+use lines::answer::Answer;
+use output::pending::{Failed, Pending, put_answer};
 use output::say::say_title;
 use shape::room::room_for;
 
@@ -20,14 +21,19 @@ fn serve_in(
     sets: &mut [u64],
     out: &mut [u8],
     used: usize,
-) -> Pending
+) -> Result<Pending, Failed>
     requires question_in_bounds { (room_for question.now ≤ length sets.old) × (length sets.old ≤ most_sets) }
     requires used_in_bounds { (used ≤ length out.old) × (line_room ≤ length out.old) }
     ensures { ServedBy question.now out.old used result out.new }
 {
     let mut spans = [0u16; 128];
     let outcome = answer(question, &mut spans, sets);
-    put_answer(rt, outcome, &spans, sets, out, used)
+    let answer = Answer {
+        outcome,
+        spans: &spans,
+        sets,
+    };
+    put_answer(rt, answer, out, used)
 }
 
 // Puts the answer to a question behind what stands in the buffer. Of the sets no more is used than the question's heading has nodes for.
@@ -37,7 +43,7 @@ pub fn serve(
     sets: &mut [u64],
     out: &mut [u8],
     used: usize,
-) -> Pending
+) -> Result<Pending, Failed>
     requires { (most_room ≤ length sets.old) × (used ≤ length out.old) × (line_room ≤ length out.old) }
     ensures { ServedBy question.now out.old used result out.new }
 {
@@ -53,12 +59,11 @@ pub fn say_answer(
     sets: &mut [u64],
     out: &mut [u8],
     used: usize,
-) -> Pending
+) -> Result<Pending, Failed>
     requires { (most_room ≤ length sets.old) × (used ≤ length out.old) × (line_room ≤ length out.old) }
     ensures { Said out.old used (title_text k ++ output question.now) result out.new }
 {
-    match say_title(rt, k, out, used) {
-        Pending::Bytes(written, at) => with_written(written, serve(rt, question, sets, out, at)),
-        Pending::Failed => Pending::Failed,
-    }
+    let title = say_title(rt, k, out, used)?;
+    let answer = serve(rt, question, sets, out, title.standing)?;
+    Ok(answer.with_written(title.written))
 }

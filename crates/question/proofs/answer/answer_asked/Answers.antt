@@ -1,11 +1,10 @@
 -- The parts of the input are handed over as they lie there, the lists cut.
-use mathlib.Core.Path.{refl, sym, ap, ap₂, ◌∙◌}
+use mathlib.Core.Path.{refl, ap, ap₂, ◌∙◌}
 use Prim.Native.Nat.{◌+◌, ◌*◌, ◌≤◌}
 use native.Mathlib.Omega.{arith}
 use Rattle.meaning.specs.File.{number}
 use Rattle.meaning.specs.Program.{numbers_from, pattern_in, heading_in, table_bytes}
 use lib.ListN.{length, take, drop}
-use lib.Seq.{length-take-le}
 use Rattle.shape.proofs.Shapes.{nodes_inside}
 use Rattle.question.proofs.Answering.{copied_list, rest_all, answered}
 use Rattle.question.proofs.answer.answer_asked.Goals as goal
@@ -26,12 +25,6 @@ slice_bounds-match_heading-count c = omega (arith, fits (goal.at.slice_bounds-ma
 
 pub slice_bounds-match_heading-start : goal.slice_bounds-match_heading-start
 slice_bounds-match_heading-start c = omega (arith, fits (goal.at.slice_bounds-match_heading-start c).Start)
-
-pub slice_bounds-match_heading-end-2 : goal.slice_bounds-match_heading-end-2
-slice_bounds-match_heading-end-2 c = sym (length-take-le _ _ (let copied = c.copy_nodes-m in omega (arith, copied.ensures.0, copied.auto.out)))
-
-pub slice_bounds-match_heading-end-3 : goal.slice_bounds-match_heading-end-3
-slice_bounds-match_heading-end-3 c = sym (length-take-le _ _ (let copied = c.copy_nodes-n in omega (arith, copied.ensures.0, copied.auto.out)))
 
 pub returns : goal.returns
 unfolding pattern_in heading_in table_bytes

@@ -3,11 +3,6 @@ use native.Mathlib.Omega.{arith}
 use Rattle.question.proofs.Served.{served}
 use Rattle.question.proofs.serving.serve_in.Goals as goal
 
-pub put_answer-requires : goal.put_answer-requires
-put_answer-requires c =
-    let found = c.answer-outcome in
-    record { spanned = (found.ensures.spanned, omega (arith, c.requires.question_in_bounds.1, found.auto.sets)); used_in_bounds = c.requires.used_in_bounds }
-
 pub returns : goal.returns
 returns c =
     let a = c.args in
