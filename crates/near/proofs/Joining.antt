@@ -1,6 +1,6 @@
 -- A bit that is set in one word of a symbol leaves every other bit and every other word as they were, and what is kept with the set can only
 -- grow.
-use mathlib.Core.Path.{◌≡◌, sym as inv, ap, ap₂, ◌∙◌}
+use mathlib.Core.Path.{◌≡◌, sym as inv, ap, ◌∙◌}
 use mathlib.Core.List.{List}
 use mathlib.Core.Bool.{Bool, ◌&&◌, ◌||◌, cond, or-false}
 use Prim.Native.Nat.{ℕ, ◌+◌, ◌-◌, ◌*◌, ◌/◌, ◌%◌, ◌^◌, ◌≤◌, ◌<◌, max}
@@ -14,59 +14,27 @@ use lib.Seq.{get_or-set_same, get_or-set_other, get_or-take, get_or-drop}
 use Rattle.meaning.specs.Limits.{word_bits, set_words_lem, set_room}
 use Rattle.meaning.specs.Buffers.{bit, member}
 use Rattle.meaning.specs.Over.{over}
-use Rattle.sets.proofs.Word.{or_bit, bit_power}
+use Rattle.sets.proofs.Laws.{member_with}
 use Rattle.near.specs.Near.{near_words, in_row, kept, OwnJoined, Joined}
 use Rattle.near.proofs.Laying.{laid, not_laid, words_hold}
 
 -- ---- in the words of one symbol
 
--- two symbols of one word are the same if their bits are
-same_bit : (j k : ℕ) → j / word_bits ≡ k / word_bits → Dec (j % word_bits ≡ k % word_bits) → eqb (j % word_bits) (k % word_bits) ≡ eqb j k
-same_bit j k q (yes r) = eq-eqb _ _ r ∙ inv (eq-eqb j k (omega arith))
-same_bit j k q (no r) = ne_eqb _ _ r ∙ inv (ne_eqb j k (λ e. r (ap (λ (i : ℕ). i % word_bits) e)))
-
--- in the words of a symbol the bit of k is set, and the last of them grows to what 1002 is above the degree
-module _ (own : List ℕ) (k degree : ℕ) (room : near_words ≤ length own) (small : k < set_room) where
-  abbrev word_at : ℕ
-  word_at = k / word_bits
-
-  module _ (word far : ℕ) (is : word ≡ bit_or (get_or own word_at 0) (2 ^ (k % word_bits))) (grows : far ≡ max (get_or (set own word_at word) set_words_lem 0) (1002 - degree)) where
-    abbrev later : List ℕ
-    later = set (set own word_at word) set_words_lem far
-
-    its_word : get_or later word_at 0 ≡ word
-    its_word = get_or-set_other (set own word_at word) set_words_lem word_at far 0 (λ e. omega arith) ∙ get_or-set_same own word_at word 0 (omega arith)
-
-    its_bits : (i : ℕ) → bit i (get_or later word_at 0) ≡ (bit i (get_or own word_at 0) || eqb i (k % word_bits))
-    its_bits i =
-        ap (bit i) (its_word ∙ is)
-        ∙ or_bit i (get_or own word_at 0) (2 ^ (k % word_bits))
-        ∙ ap (λ (b : Bool). bit i (get_or own word_at 0) || b) (bit_power (k % word_bits) i)
-
-    -- LAW: k has joined the set
-    pub own_joined : OwnJoined k degree own later
-    unfolding member
-    own_joined =
-        record {
-          has = λ g j l. has j l (ℕ_discrete (j / word_bits) word_at);
-          far = λ g.
-              get_or-set_same (set own word_at word) set_words_lem far 0 (omega (arith, length-set own word_at word))
-              ∙ grows
-              ∙ ap (λ (n : ℕ). max n (1002 - degree)) (get_or-set_other own word_at set_words_lem word 0 (λ e. omega arith));
-        }
-      where
-        has : (j : ℕ) → j < set_room → Dec (j / word_bits ≡ word_at) → member later j ≡ (member own j || eqb j k)
-        has j l (yes w) =
-            ap (λ (i : ℕ). bit (j % word_bits) (get_or later i 0)) w
-            ∙ its_bits (j % word_bits)
-            ∙ ap₂ ◌||◌ (ap (λ (i : ℕ). bit (j % word_bits) (get_or own i 0)) (inv w)) (same_bit j k w (ℕ_discrete (j % word_bits) (k % word_bits)))
-        has j l (no w) =
-            rw (ne_eqb j k (λ e. w (ap (λ (i : ℕ). i / word_bits) e)))
-            (ap (bit (j % word_bits)) (other_word (j / word_bits) w (λ e. omega arith)) ∙ inv (or-false _))
-          where
-            -- every other word is as it was
-            other_word : (i : ℕ) → (i ≡ word_at → ⊥) → (i ≡ set_words_lem → ⊥) → get_or later i 0 ≡ get_or own i 0
-            other_word i a b = get_or-set_other (set own word_at word) set_words_lem i far 0 b ∙ get_or-set_other own word_at i word 0 a
+-- LAW: where the bit of k is set, and the last of the words grows to what 1002 is above the degree, k has joined the set
+pub own_joined : (own : List ℕ) (k degree : ℕ) → near_words ≤ length own → k < set_room → (word far : ℕ)
+    → word ≡ bit_or (get_or own (k / word_bits) 0) (2 ^ (k % word_bits)) → far ≡ max (get_or (set own (k / word_bits) word) set_words_lem 0) (1002 - degree)
+    → OwnJoined k degree own (set (set own (k / word_bits) word) set_words_lem far)
+unfolding member
+own_joined own k degree room small word far is grows =
+    record {
+      has = λ g j l.
+          ap (bit (j % word_bits)) (get_or-set_other (set own (k / word_bits) word) set_words_lem (j / word_bits) far 0 (λ e. omega arith))
+          ∙ rw is (member_with own k (omega arith) j);
+      far = λ g.
+          get_or-set_same (set own (k / word_bits) word) set_words_lem far 0 (omega (arith, length-set own (k / word_bits) word))
+          ∙ grows
+          ∙ ap (λ (n : ℕ). max n (1002 - degree)) (get_or-set_other own (k / word_bits) set_words_lem word 0 (λ e. omega arith));
+    }
 
 -- ---- in a set among others
 

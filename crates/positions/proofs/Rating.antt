@@ -41,9 +41,6 @@ module _ (T : Table) (faced : List ℕ) where
     pub lows : low ≡ min before (fewest (member set) shares m)
     pub bests : best ≡ most (member set) shares m
 
-  pub rated_none : (set : List ℕ) (before : ℕ) → before ≤ 1000 → RatedTo set before 0 before 0
-  rated_none set before top = record { within = omega arith; lows = omega arith; bests = refl }
-
   module _ {set : List ℕ} {before m low best : ℕ} (r : RatedTo set before m low best) where
     -- LAW: with k, the next one
     pub rated_next : {k d low' best' : ℕ} → m ≤ k → k < T.size → member set k ≡ true → NoneBetween set m k → d ≡ shares k → low' ≡ min low d → best' ≡ max best d

@@ -2,13 +2,12 @@
 -- the subterms is the least of its degrees with those symbols. A subterm that has no such position leaves nothing near.
 use mathlib.Core.Path.{◌≡◌, refl, sym as inv, ap, ◌∙◌}
 use mathlib.Core.List.{List, [], ◌∷◌}
-use mathlib.Core.Bool.{Bool, true, false, ◌&&◌, ◌||◌, and-false, cond, or-false}
+use mathlib.Core.Bool.{Bool, true, false, ◌&&◌, and-false, cond}
 use Prim.Native.Nat.{ℕ, zero, suc, ◌+◌, ◌≤◌, ◌<◌}
-use native.Mathlib.Decide.{dec_lt, ℕ_discrete}
 use native.Mathlib.Nat.{not-suc-le-zero}
 use native.Mathlib.Omega.{arith}
-use borrow.Author.Tests.{lt-leb, eq-eqb, ne_eqb, eqb-true}
-use lib.Dec.{ltb, leb, eqb}
+use borrow.Author.Tests.{lt-leb, eq-eqb, eqb-true}
+use lib.Dec.{ltb, leb}
 use lib.ListN.{length, get_or}
 use Rattle.theory.specs.Tree.{Term, node, ∅}
 use Rattle.theory.specs.Table.{Table, Lawful}
@@ -57,40 +56,6 @@ module _ (heading notes : List ℕ) (k : ℕ) where
     where
       cc_false : false ≡ true → ⊥
       cc_false z = let y : ◌≡◌ {A = ℕ} 0 1 = cc in omega arith
-
-  -- LAW: one subterm more
-  pub stand_next : (n : ℕ) (symbols more : List ℕ) → k < size_of notes n
-      → ((h : ℕ) → member more h ≡ (member symbols h || eqb h (get_or heading (start_of notes n + k) 0)))
-      → StandAt heading notes k n symbols → StandAt heading notes k (n + 1) more
-  stand_next n symbols more l with_it s =
-      record {
-        reach = λ o m. reach o m (dec_lt o n);
-        each = λ o m. each o m (dec_lt o n);
-        only = λ h e. only h (ℕ_discrete h here) (inv (with_it h) ∙ e);
-      }
-    where
-      here : ℕ
-      here = get_or heading (start_of notes n + k) 0
-
-      reach : (o : ℕ) → o < n + 1 → Dec (o < n) → k < size_of notes o
-      reach o m (yes b) = s.reach o b
-      reach o m (no b) = let e : n ≡ o = omega arith in rw e at l
-
-      each : (o : ℕ) → o < n + 1 → Dec (o < n) → member more (get_or heading (start_of notes o + k) 0) ≡ true
-      each o m (yes b) = with_it _ ∙ rw (s.each o b)
-      each o m (no b) =
-          let e : o ≡ n = omega arith in
-          rw e (with_it here ∙ rw (eq-eqb here here refl) (or_true (member symbols here)))
-        where
-          or_true : (b : Bool) → (b || true) ≡ true
-          or_true true = refl
-          or_true false = refl
-
-      only : (h : ℕ) → Dec (h ≡ here) → (member symbols h || eqb h here) ≡ true → (o : ℕ) × (o < n + 1) × (get_or heading (start_of notes o + k) 0 ≡ h)
-      only h (yes e) f = (n, omega arith, inv e)
-      only h (no e) f =
-          let old = s.only h (inv (or-false (member symbols h)) ∙ (rw (ne_eqb h here e) at f)) in
-          (old.0, omega (arith, old.1), old.2)
 
   -- LAW: one symbol, the first subterm's, stands in all of them
   pub stand_alone : (n first : ℕ) {symbols : List ℕ} → 0 < n → first < set_room → first ≡ get_or heading (start_of notes 0 + k) 0

@@ -93,12 +93,6 @@ pub member-zeros : (n k : ℕ) → member (zeros n) k ≡ false
 unfolding member
 member-zeros n k = ap (bit (k % word_bits)) (get_or_zeros n (k / word_bits)) ∙ bit-zero (k % word_bits)
 
--- words that are all zero have no member
-pub no_member : (n : ℕ) (ws : List ℕ) → length ws ≡ n → ((j : ℕ) → j < n → get_or ws j 0 ≡ 0) → (k : ℕ) → member ws k ≡ false
-no_member n ws e h k = ap (λ (ws : List ℕ). member ws k) all ∙ member-zeros n k where
-  all : ws ≡ zeros n
-  all = ext_get_or 0 ws (zeros n) (e ∙ inv (length-replicate n 0)) (λ j l. h j (omega arith) ∙ inv (get_or_zeros n j))
-
 module _ (n k : ℕ) (l : k < word_bits * n) where
   -- the word with the bit of k, and the others
   of_word : (j : ℕ) → j ≡ k / word_bits → get_or (one_bit n k) j 0 ≡ 2 ^ (k % word_bits)
@@ -162,7 +156,3 @@ pub empty_image : (n : ℕ) (ws : List ℕ) → Words n ws → ((k : ℕ) → me
 empty_image n ws w h = same_set n ws (zeros n) w zeros-words (λ k l. h k ∙ inv (member-zeros n k)) where
   zeros-words : Words n (zeros n)
   zeros-words = record { count = length-replicate n 0; fit = λ j. omega (arith, get_or_zeros n j) }
-
--- .. so each of its words is zero
-pub empty_word : (n : ℕ) (ws : List ℕ) → Words n ws → ((k : ℕ) → member ws k ≡ false) → (j : ℕ) → get_or ws j 0 ≡ 0
-empty_word n ws w h j = ap (λ (l : List ℕ). get_or l j 0) (empty_image n ws w h) ∙ get_or_zeros n j

@@ -59,11 +59,6 @@ module _ (file : List ℕ) (ok : SoundFile file) (a : ℕ) where
           (sound file ok).lawful.either s a
           ∙ degree_missed file ok a s up (λ k u e. let same = same_symbols file ok a s (omega (arith, few)) k u e in no_pair k u (inl (inv same.0, inv same.1)))
 
-  -- LAW: zeros, before any pair was seen
-  pub laid_none : (Seen : ℕ → Type 0) (row : List ℕ) → T.size ≤ length row → ((s : ℕ) → s < T.size → get_or row s 0 ≡ 0)
-      → ((k : ℕ) → k < pair_count_lem file → Seen k → ⊥) → Laid file a Seen row
-  laid_none Seen row room zero unseen = record { room = room; right = λ s l n. absurd (n (zero s l)); none = λ s l e k m seen p. unseen k m seen }
-
   module _ {Seen Then : ℕ → Type 0} {row : List ℕ} (laid : Laid file a Seen row) where
     -- LAW: what was seen is all that there was to be seen
     pub laid_as : ((k : ℕ) → k < pair_count_lem file → Then k → Seen k) → Laid file a Then row

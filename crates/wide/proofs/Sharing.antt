@@ -19,10 +19,6 @@ module _ (T : Table) (faced : List ℕ) where
     pub within : m ≤ T.size
     pub is : (s : ℕ) → s < T.size → get_or least s 0 ≡ fewest (member faced) (T.deg s) m
 
-  -- LAW: before any member
-  pub shared-first : (least : List ℕ) → ((s : ℕ) → s < T.size → get_or least s 0 ≡ 1000) → SharedTo 0 least
-  shared-first least whole = record { within = omega arith; is = whole }
-
   -- LAW: with k, the next member that is not below m
   pub shared_next : (m k : ℕ) (least row lower : List ℕ) → m ≤ k → k < T.size → member faced k ≡ true → NoneBetween faced m k
       → ((s : ℕ) → s < T.size → get_or row s 0 ≡ T.deg s k) → ((s : ℕ) → s < T.size → get_or lower s 0 ≡ min (get_or least s 0) (get_or row s 0))

@@ -1,24 +1,23 @@
 -- The two walks over the pairs of symbol a. Its row, the pairs whose lower symbol it is, stands in one piece, since pairs rise. Its chain goes from the last
 -- pair whose higher symbol it is to the one before, so that behind each pair on the chain, and behind the last, none is left out.
-use mathlib.Core.Path.{◌≡◌, refl, sym as inv, ap, ◌∙◌}
+use mathlib.Core.Path.{◌≡◌, refl}
 use mathlib.Core.Logic.{◌⊎◌, inl, inr, ⊎_elim}
 use mathlib.Core.List.{List}
-use Prim.Native.Nat.{ℕ, ◌+◌, ◌-◌, ◌*◌, ◌≤◌, ◌<◌}
+use Prim.Native.Nat.{ℕ, ◌+◌, ◌-◌, ◌≤◌, ◌<◌}
 use native.Mathlib.Decide.{dec_lt}
 use native.Mathlib.Omega.{arith}
 use borrow.Author.Tests.{eqb-true, eqb-false}
 use lib.Dec.{eqb}
-use lib.ListN.{length, get_or, set}
+use lib.ListN.{get_or, set}
 use Rattle.meaning.specs.File.{pair_count_lem, table_in}
 use Rattle.meaning.specs.Tables.{lower_at, higher_at, degree_at}
 use Rattle.meaning.specs.Refusals.{SoundFile}
 use Rattle.meaning.proofs.First.{Last, last_below_lem}
-use Rattle.degrees.specs.Rows.{Rows}
 use Rattle.degrees.proofs.Listed.{pair_symbols}
 use Rattle.degrees.proofs.Narrowing.{none_before}
 use Rattle.wide.specs.Index.{last_with}
 use Rattle.wide.specs.Laid.{InRow, RowFrom, Laid}
-use Rattle.wide.proofs.Laying.{laid_none, laid_as, laid_more, laid_all}
+use Rattle.wide.proofs.Laying.{laid_as, laid_more, laid_all}
 
 module _ (file : List ℕ) (a : ℕ) where
   -- a's row begins from pair `low` to pair `high`, if it has any
@@ -45,30 +44,11 @@ module _ (file : List ℕ) (ok : SoundFile file) (a : ℕ) where
 
   -- ---- where the row begins
 
-  -- LAW: from where to where rows say
-  pub starts_anywhere : (rows : List ℕ) → Rows file rows → StartsBetween file a (get_or rows (2 * a) 0) (pair_count_lem file - get_or rows (2 * a + 1) 0)
-  starts_anywhere rows known =
-      record {
-        within = omega arith;
-        none_before = λ j l own. rw own at (known.from j l);
-        none_skipped = λ j u l own. let behind = rw own at (known.behind j l) in absurd (omega arith);
-      }
-
   module _ (low high : ℕ) (between : StartsBetween file a low high) where
-    -- LAW: at the lowest, as the pair there is not of an earlier row, or no other is left
+    -- LAW: at the lowest, as the pair there is not of an earlier row
     pub starts_here : low < high → a ≤ lower_at file low → RowFrom file a low
     starts_here l reached =
         record { none_before = between.none_before; none_skipped = λ j u m own. omega (arith, own, rising low j u m) }
-
-    pub starts_last : high ≤ low → RowFrom file a low
-    starts_last l =
-        record {
-          none_before = between.none_before;
-          none_skipped = λ j u m own.
-              let last = between.none_skipped j (omega arith) m own in
-              let same : high ≡ low = omega (arith, between.none_before high (omega arith) last) in
-              ap (lower_at file) (inv same) ∙ last;
-        }
 
     module _ (middle : ℕ) (l : middle < high) where
       -- LAW: behind a pair of an earlier row, or not behind one of another
@@ -89,15 +69,6 @@ module _ (file : List ℕ) (ok : SoundFile file) (a : ℕ) where
           }
 
   -- ---- along the row
-
-  -- LAW: before its first pair
-  pub row_first : (k : ℕ) (row : List ℕ) → RowFrom file a k → (table_in file).size ≤ length row → ((s : ℕ) → s < (table_in file).size → get_or row s 0 ≡ 0)
-      → RowTo file a k row
-  row_first k row from room cleared =
-      record {
-        laid = laid_none file ok a _ row room cleared (λ j l seen. omega (arith, from.none_before j l seen.0, seen.1));
-        none_skipped = from.none_skipped;
-      }
 
   module _ (k : ℕ) (row : List ℕ) (to : RowTo file a k row) where
     -- LAW: from a pair of the row to the next pair
