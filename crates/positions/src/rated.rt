@@ -44,11 +44,14 @@ fn few_of(symbols: u16) -> u16
 fn is_large(symbols: u16, set: &SymbolSet) -> bool
     ensures { result ≡ true → small_table < symbols }
 {
+    if symbols <= SMALL_TABLE {
+        return false;
+    }
     let mut left = few_of(symbols) + 1;
     for word in &set.words {
         left = left.saturating_sub(word.count_ones() as u16);
     }
-    symbols > SMALL_TABLE && left == 0
+    left == 0
 }
 
 // The degrees where few symbols tell them: all of the set, or the first ones where the others can change neither.
