@@ -8,8 +8,9 @@ ghost use Rattle.lines.specs.Lines.{line_room};
 ghost use Rattle.input.specs.Unreads.{unread};
 ghost use Rattle.output.specs.Pendings.{Said};
 
-use input::reading::{Unread, read_until};
-use output::pending::{Pending, write_out};
+use input::reading::read_until;
+use input::unread::Unread;
+use output::pending::{Failed, Pending, write_out};
 use question::serving::serve;
 use shape::room::MOST_ROOM;
 
@@ -20,26 +21,21 @@ fn answer_read(
     read: Unread,
     sets: &mut [u64],
     out: &mut [u8],
-) -> Pending
-    requires at_le_end { (read.at ≤ read.end) × (read.end ≤ length input.now) }
+) -> Result<Pending, Failed>
+    requires read_in_bounds { read.end ≤ length input.now }
     requires most_room_in_bounds { (most_room ≤ length sets.old) × (line_room ≤ length out.old) }
     ensures { Said out.old 0 (output (unread input.now read.at read.end)) result out.new }
 {
-    let at = read.at;
-    let end = read.end;
-    serve(rt, &input[at..end], sets, out, 0)
+    serve(rt, &input[read.at..read.end], sets, out, 0)
 }
 
 // A question that is longer than 65,535 bytes is refused for its length, so one byte more is enough to read.
 fn main(rt: HostRuntime) {
     let mut input = io::large_buffer();
-    let read = read_until(rt, &mut input, 0, 0, 65536);
+    let read = read_until(rt, &mut input, Unread::front(0), 65536);
     let mut sets = [0u64; MOST_ROOM];
     let mut out = io::large_buffer();
-    match answer_read(rt, &input, read, &mut sets, &mut out) {
-        Pending::Bytes(_, used) => {
-            write_out(rt, &out, used);
-        }
-        Pending::Failed => {}
+    if let Ok(answer) = answer_read(rt, &input, read, &mut sets, &mut out) {
+        let _ = write_out(rt, &out, answer.standing);
     }
 }

@@ -1,10 +1,10 @@
--- What each turn of the loop keeps.
+-- The buffers keep their lengths, and the first k turns are done.
 use mathlib.Core.Path.{◌≡◌}
-use Prim.Native.Nat.{◌≤◌}
 use lib.ListN.{length}
+use Rattle.std.specs.Prelude.{Ok}
 use Rattle.replay.specs.Turns.{TurnsBy}
 use Rattle.replay.proofs.answer_all.Given as goal
 
 abbrev pub invariant-loop-k : goal.invariant-loop-k
 invariant-loop-k l =
-    (length l.buffer ≡ length l.initial.buffer) × (length l.sets ≡ length l.initial.sets) × (length l.out ≡ length l.initial.out) × (l.k ≤ 18446744073709551615) × TurnsBy l.k l.buffer l.initial.out l.turn l.out
+    (length l.buffer ≡ length l.fn.buffer) × (length l.sets ≡ length l.fn.sets) × (length l.out ≡ length l.fn.out) × TurnsBy l.k l.buffer l.fn.out (Ok l.turn) l.out
