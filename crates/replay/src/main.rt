@@ -116,14 +116,10 @@ fn main(rt: HostRuntime) {
     let mut buffer = [0u8; ROOM];
     let mut sets = [0u64; MOST_ROOM];
     let mut out = io::large_buffer();
-    let done = answer_all(rt, &mut buffer, &mut sets, &mut out);
-    if let Ok(
-        Turn {
-            rest: None,
-            standing,
-        },
-    ) = done
-    {
-        let _ = write_out(rt, &out, standing);
+    let Ok(last) = answer_all(rt, &mut buffer, &mut sets, &mut out) else {
+        return;
+    };
+    if last.rest.is_none() {
+        let _ = write_out(rt, &out, last.standing);
     }
 }
