@@ -26,22 +26,13 @@ pub returns-then-i-gt0 : goal.returns-then-i-gt0
 returns-then-i-gt0 c =
     leading_zero _ _ _ c.loop-i.invariant c.loop-i-test.true (digit (goal.at.returns-then-i-gt0 c).Else-not-is_ascii_digit) (omega arith) c.if-i-gt0.true
 
-pub returns-in_err-checked_mul : goal.returns-in_err-checked_mul
-returns-in_err-checked_mul c =
-    rw c.from_residual.ensures
-    (too_high _ _ _ c.loop-i.invariant c.loop-i-test.true (digit (goal.at.returns-in_err-checked_mul c).Else-not-is_ascii_digit) _ refl (omega (arith, c.in_err-checked_mul.ensures)))
-
-pub returns-in_err-value : goal.returns-in_err-value
-returns-in_err-value c =
-    rw c.from_residual-in_err-value.ensures
-    (too_high _ _ _ c.loop-i.invariant c.loop-i-test.true (digit (goal.at.returns-in_err-value c).Else-not-is_ascii_digit) _ refl (omega (arith, c.in_ok-checked_mul.ensures, c.in_err-value.ensures)))
+pub returns-then-value-gt-MOST : goal.returns-then-value-gt-MOST
+returns-then-value-gt-MOST c =
+    too_high _ _ _ c.loop-i.invariant c.loop-i-test.true (digit (goal.at.returns-then-value-gt-MOST c).Else-not-is_ascii_digit) _ refl c.if-value-gt-MOST.true
 
 pub loop-i-preserved : goal.loop-i-preserved
 loop-i-preserved c =
-    let product = c.in_ok-checked_mul.ensures in
-    let sum = c.in_ok-value.ensures in
-    rw (sum.1, product.1)
-    (passing_on _ _ _ c.loop-i.invariant c.loop-i-test.true (digit (goal.at.loop-i-preserved c).Else-not-is_ascii_digit) _ refl (λ l e. omega (arith, l, e)) (omega (arith, product.1, sum.0)))
+    passing_on _ _ _ c.loop-i.invariant c.loop-i-test.true (digit (goal.at.loop-i-preserved c).Else-not-is_ascii_digit) _ refl (λ l e. omega (arith, l, e)) c.if-value-gt-MOST.false
 
 pub returns : goal.returns
 returns c = never_ended _ _ _ c.loop-i.invariant c.loop-i-test.false
