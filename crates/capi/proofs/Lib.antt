@@ -1,8 +1,4 @@
--- How answers go out, that each promise allows one result, and that the exports ensure the promises.
-pub mod Told
-pub mod Matched
+-- That a part handed back is as long as is counted, that each promise allows one result, and that the exports ensure the promises.
 pub mod Parts
-pub mod Written
 pub mod OneCapi
-pub mod Wide
 pub mod Tied

@@ -4,6 +4,7 @@ use mathlib.Core.Path.{◌≡◌, refl, sym, subst, ◌∙◌}
 use mathlib.Core.List.{List}
 use Prim.Native.Nat.{ℕ, ◌≤◌, ◌<◌, ◌/◌, ◌%◌}
 use native.Mathlib.Omega.{arith}
+use borrow.Author.Tests.{le-ltb}
 use Rattle.meaning.specs.Refusals.{Refusal as Given, refusal, number_of, place_of}
 use Rattle.refusal.specs.Told.{told}
 use Rattle.refusal.specs.declared.Refusal.{Refusal}
@@ -18,8 +19,7 @@ use Rattle.capi.specs.Terms.{ShxHeadingDegree, ShxSubterm, ShxNearer}
 use Rattle.capi.specs.Matching.{ShxMatch}
 use Rattle.capi.specs.Writing.{ShxWriteTable}
 use Rattle.capi.specs.Saving.{ShxWiden}
-use Rattle.capi.specs.Marc.{highest_place, wide_code_lem, ShxMarcHeading}
-use Rattle.capi.proofs.Wide.{told_itself}
+use Rattle.capi.specs.Marc.{highest_place, told_place, wide_code_lem, ShxMarcHeading}
 
 -- THEOREM: any two results that a promise allows are equal, and so is what they leave
 module _ (table : List ℕ) where
@@ -101,6 +101,10 @@ pub code_tells : (why : Refusal) → Tells (code_of (told why)) (told why)
 code_tells why = tells (told why) (numbered why).0 (numbered why).1
 
 -- ---- and so does a code of 64 bits
+
+-- LAW: a place that 48 bits tell is told as it is
+pub told_itself : (place at : ℕ) → place ≡ at → place ≤ highest_place → place ≡ told_place at
+told_itself place at e l = e ∙ sym (rw (le-ltb highest_place at (omega (arith, e))))
 
 fault_numbered : (why : Fault) → (0 < number_of (fault-told why)) × (number_of (fault-told why) < 65536)
 fault_numbered (BadEntry entry) = (omega arith, omega arith)

@@ -3,7 +3,7 @@ ghost use Rattle.std.specs.Prelude.{◌≡◌};
 ghost use Rattle.exchange.specs.Said.{told};
 ghost use Rattle.capi.specs.Marc.{wide_code_lem, ShxMarcHeading};
 
-use exchange::{Fault, Headed, read_heading};
+use exchange::{Fault, read_heading};
 
 // the highest place that 48 bits tell
 const HIGHEST_PLACE: u64 = 281474976710655;
@@ -14,10 +14,7 @@ fn wide_code(why: Fault) -> u64
     ensures { result ≡ wide_code_lem (told why) }
 {
     let number = why.number() as u64;
-    let place = why.place() as u64;
-    if place > HIGHEST_PLACE {
-        return number + 65536 * HIGHEST_PLACE;
-    }
+    let place = (why.place() as u64).min(HIGHEST_PLACE);
     number + 65536 * place
 }
 
@@ -35,7 +32,7 @@ pub extern "C" fn shx_marc_heading(
     ensures { ShxMarcHeading bytes.now text.now ends.now numbers.now heading absent nodes.old result nodes.new }
 {
     match read_heading(bytes, text, ends, numbers, heading, absent, nodes) {
-        Headed::Written => 0,
-        Headed::Refused(why) => wide_code(why),
+        Ok(()) => 0,
+        Err(why) => wide_code(why),
     }
 }

@@ -1,7 +1,7 @@
 // The converter of saved answers.
 ghost use Rattle.capi.specs.Saving.{ShxWiden};
 
-use crate::writing::note;
+use crate::answer::note;
 use saved::widen;
 
 // The sets of an answer that was saved when a set had four words, made sets of today at the front of the output.

@@ -3,7 +3,6 @@ ghost use Rattle.capi.specs.Matching.{ShxMatch};
 
 use crate::answer::refused;
 use matches::match_heading;
-use refusal::Outcome;
 
 // The match, with its degrees; 0 and 0 where it is refused.
 #[unsafe(no_mangle)]
@@ -20,12 +19,12 @@ pub extern "C" fn shx_match(
     ensures { ShxMatch table.now pattern.now heading.now cut spans.old sets.old result spans.new sets.new lowest.new highest.new }
 {
     match match_heading(table, pattern, heading, cut, spans, sets) {
-        Outcome::Match(low, high) => {
-            *lowest = low;
-            *highest = high;
+        Ok(degrees) => {
+            *lowest = degrees.lowest;
+            *highest = degrees.highest;
             0
         }
-        Outcome::Refused(why) => {
+        Err(why) => {
             *lowest = 0;
             *highest = 0;
             refused(why)

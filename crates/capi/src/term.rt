@@ -1,9 +1,8 @@
 // The calls on terms.
 ghost use Rattle.capi.specs.Terms.{ShxHeadingDegree, ShxSubterm, ShxNearer};
 
-use crate::answer::refused;
-use headings::{Choice, choose, degree_of_headings, subterm};
-use tables::DegreeAnswer;
+use crate::answer::note;
+use headings::{Candidate, choose, degree_of_headings, subterm};
 
 // How near two headings are.
 #[unsafe(no_mangle)]
@@ -15,13 +14,7 @@ pub extern "C" fn shx_heading_degree(
 ) -> u32
     ensures { ShxHeadingDegree table.now first.now second.now degree.old result degree.new }
 {
-    match degree_of_headings(table, first, second) {
-        DegreeAnswer::Degree(found) => {
-            *degree = found;
-            0
-        }
-        DegreeAnswer::Refused(why) => refused(why),
-    }
+    note(degree_of_headings(table, first, second), degree)
 }
 
 // How many nodes the subterm at an index has; 0 where there is none.
@@ -38,8 +31,8 @@ pub extern "C" fn shx_nearer(table: &[u8], heading: &[u16], first: &[u16], secon
     ensures { ShxNearer table.now heading.now first.now second.now result }
 {
     match choose(table, heading, first, second) {
-        Choice::Neither => 0,
-        Choice::First => 1,
-        Choice::Second => 2,
+        None => 0,
+        Some(Candidate::First) => 1,
+        Some(Candidate::Second) => 2,
     }
 }
