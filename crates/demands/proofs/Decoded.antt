@@ -10,6 +10,7 @@ use native.Mathlib.Decide.{dec_lt}
 use lib.Dec.{lit≤}
 use lib.ListN.{length, drop, length-take, length-drop}
 use borrow.Author.Tests.{ne_eqb}
+use Rattle.std.specs.Prelude.{Result, Ok, Err}
 use Rattle.theory.specs.Tree.{Pattern, var, sym, encₚ}
 use Rattle.meaning.specs.Refusals.{Refusal as Given, refusal, place_of, first}
 use Rattle.meaning.specs.Calls.{Answer, refused, gives, refused_as, aye, degrees, is_table_lem, symbol_degree_lem, heading_degree, matched, written, arity_back, pair_back, Part, part, subterm_rows, subterm, Nearer, the_first, the_second_lem, neither, nearer}
@@ -20,25 +21,13 @@ use Rattle.marc.specs.Known.{known_in}
 use Rattle.marc.specs.Heading.{heading_rows, headed}
 use Rattle.marc.proofs.Places.{heading_place}
 use Rattle.exchange.specs.Said.{told as toldFault, said as saidHeading}
-use Rattle.exchange.specs.declared.Headed.{Headed}
-use Rattle.exchange.specs.declared.Headed.TheVariants.{Written as Read, Refused as NotRead}
+use Rattle.exchange.specs.declared.Fault.{Fault}
 use Rattle.refusal.specs.Told.{told, refused_by}
+use Rattle.refusal.specs.declared.Degrees.{Degrees as Found}
 use Rattle.refusal.specs.declared.Refusal.{Refusal}
 use Rattle.writer.specs.Said.{said}
-use Rattle.writer.specs.declared.Writing.{Writing}
-use Rattle.writer.specs.declared.Writing.TheVariants.{Written, Refused as NotWritten}
 use Rattle.refusal.specs.Outcomes.{said_match}
-use Rattle.refusal.specs.declared.Outcome.{Outcome}
-use Rattle.refusal.specs.declared.Outcome.TheVariants.{Match, Refused as NoMatch}
-use Rattle.tables.specs.declared.TableAnswer.{TableAnswer}
-use Rattle.tables.specs.declared.TableAnswer.TheVariants.{Table as IsOne, Refused as NoTable}
-use Rattle.tables.specs.declared.DegreeAnswer.{DegreeAnswer}
-use Rattle.tables.specs.declared.DegreeAnswer.TheVariants.{Degree, Refused as NoDegree}
-use Rattle.tables.specs.declared.ArityAnswer.{ArityAnswer}
-use Rattle.tables.specs.declared.ArityAnswer.TheVariants.{Arity, Refused as NoArity}
-use Rattle.tables.specs.declared.PairAnswer.{PairAnswer}
-use Rattle.tables.specs.declared.PairAnswer.TheVariants.{Listed, Refused as NoPair}
-use Rattle.tables.specs.Tables.{said_table, said_degree, said_arity, said_pair}
+use Rattle.tables.specs.Tables.{said_as}
 use Rattle.table.specs.Read.{pair_in}
 use Rattle.table.specs.declared.read.Pair.{Pair as Record}
 use Rattle.records.specs.Records.{listed}
@@ -69,50 +58,38 @@ refused_decodes {A} why left e = go (told why) (code_tells why)
     go : (g : Given) → Tells (code_of g) g → answer_of (coded {A = A} (refused_as g)) (left (refused_as g)) ≡ refused_as g
     go (refusal n place) t = tells_decodes (code_of (refusal n place)) (refusal n place) (left (refused n place)) t
 
+results_decode : {A B : Type 0} (meant : A → B) (r : Result A Refusal) → Decodes (said_as meant r)
+results_decode meant (Ok a) = gives_decodes (meant a)
+results_decode meant (Err why) = refused_decodes why
+
 -- LAW: it does of each call's answer, since every answer is one that a case says
 module _ (table : List ℕ) where
   pub table_decodes : Decodes (is_table_lem table)
-  table_decodes = subst Decodes (kept.is_table_lem-is table) (go (some_calls.is_table_lem table))
-    where
-      go : (r : TableAnswer) → Decodes (said_table r)
-      go IsOne = gives_decodes aye
-      go (NoTable why) = refused_decodes why
-
-  degrees_decode : (r : DegreeAnswer) → Decodes (said_degree r)
-  degrees_decode (Degree d) = gives_decodes d
-  degrees_decode (NoDegree why) = refused_decodes why
+  table_decodes = subst Decodes (kept.is_table_lem-is table) (results_decode (λ u. aye) (some_calls.is_table_lem table))
 
   pub symbols_decode : (a b : ℕ) → Decodes (symbol_degree_lem table a b)
-  symbols_decode a b = subst Decodes (kept.symbol_degree_lem-is table a b) (degrees_decode (some_calls.symbol_degree_lem table a b))
+  symbols_decode a b = subst Decodes (kept.symbol_degree_lem-is table a b) (results_decode (λ n. n) (some_calls.symbol_degree_lem table a b))
 
   pub headings_decode : (one two : List ℕ) → Decodes (heading_degree table one two)
-  headings_decode one two = subst Decodes (kept.heading_degree_lem table one two) (degrees_decode (some_calls.heading_degree table one two))
+  headings_decode one two = subst Decodes (kept.heading_degree_lem table one two) (results_decode (λ n. n) (some_calls.heading_degree table one two))
 
   pub match_decodes : (pattern heading : List ℕ) (cut : ℕ) (spans sets : List ℕ) → Decodes (matched table pattern heading cut spans sets)
   match_decodes pattern heading cut spans sets =
       subst Decodes (kept.match table pattern heading cut spans sets).answers (go (some_calls.match table pattern heading cut spans sets).outcome)
     where
-      go : (r : Outcome) → Decodes (said_match r)
-      go (Match low high) = gives_decodes (degrees low high)
-      go (NoMatch why) = refused_decodes why
+      go : (r : Result Found Refusal) → Decodes (said_match r)
+      go (Ok d) = gives_decodes (degrees d.lowest d.highest)
+      go (Err why) = refused_decodes why
 
   pub arity_decodes : (symbol : ℕ) → Decodes (arity_back table symbol)
-  arity_decodes symbol = subst Decodes (kept.arity_of_lem-is table symbol) (go (some_calls.arity_of_lem table symbol))
-    where
-      go : (r : ArityAnswer) → Decodes (said_arity r)
-      go (Arity n) = gives_decodes n
-      go (NoArity why) = refused_decodes why
+  arity_decodes symbol = subst Decodes (kept.arity_of_lem-is table symbol) (results_decode (λ n. n) (some_calls.arity_of_lem table symbol))
 
   pub pair_decodes : (index : ℕ) → Decodes (pair_back table index)
-  pair_decodes index = subst Decodes (kept.pair_of_lem table index) (go (some_calls.pair_of table index))
-    where
-      go : (r : PairAnswer) → Decodes (said_pair r)
-      go (Listed p) = gives_decodes (pair_in p)
-      go (NoPair why) = refused_decodes why
+  pair_decodes index = subst Decodes (kept.pair_of_lem table index) (results_decode pair_in (some_calls.pair_of table index))
 
-writings_decode : (r : Writing) → Decodes (said r)
-writings_decode (Written n) = gives_decodes n
-writings_decode (NotWritten why) = refused_decodes why
+writings_decode : (r : Result ℕ Refusal) → Decodes (said r)
+writings_decode (Ok n) = gives_decodes n
+writings_decode (Err why) = refused_decodes why
 
 pub writer_decodes : (arities : List ℕ) (records : List Record) (output : List ℕ) → Decodes (written arities (listed records) output)
 writer_decodes arities records output =
@@ -134,9 +111,9 @@ module _ (bytes text ends numbers : List ℕ) (heading absent : ℕ) (nodes : Li
       let m = (kept.marc_heading_lem bytes text ends numbers heading absent nodes).answers in
       subst (λ a. answer_of (wide_coded a) aye ≡ a) m (go (some_calls.marc_heading bytes text ends numbers heading absent nodes).headed m)
     where
-      go : (h : Headed) → saidHeading h ≡ headed bytes (known_in text ends numbers) heading absent nodes → answer_of (wide_coded (saidHeading h)) aye ≡ saidHeading h
-      go Read m = refl
-      go (NotRead why) m = of (toldFault why) m (wide_code_tells why)
+      go : (h : Result (Unit {0}) Fault) → saidHeading h ≡ headed bytes (known_in text ends numbers) heading absent nodes → answer_of (wide_coded (saidHeading h)) aye ≡ saidHeading h
+      go (Ok u) m = refl
+      go (Err why) m = of (toldFault why) m (wide_code_tells why)
         where
           of : (g : Given) → refused_as g ≡ headed bytes (known_in text ends numbers) heading absent nodes → (place_of g ≤ highest_place → Tells (wide_code_lem g) g)
               → answer_of (wide_coded (refused_as g)) aye ≡ refused_as g

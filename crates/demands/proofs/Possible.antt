@@ -6,6 +6,7 @@ use mathlib.Core.Bool.{Bool, true, false, not, ◌||◌}
 use Prim.Native.Nat.{ℕ, ◌*◌, ◌%◌}
 use lib.Dec.{ltb, eqb}
 use lib.ListN.{length}
+use Rattle.std.specs.Prelude.{Result, Ok}
 use Rattle.theory.specs.Least.{All}
 use Rattle.theory.specs.Table.{Table}
 use Rattle.theory.specs.Pairs.{Pair, pair}
@@ -16,22 +17,13 @@ use Rattle.meaning.specs.Refusals.{outside, misplaced, row1_short, row1_offsets,
 use Rattle.meaning.specs.Calls.{gives, Yes, aye, is_table_lem, symbol_rows, symbol_degree_lem, degree_rows, heading_degree, Degrees, degrees, input_rows, search_rows, match_rows, matched, later_spans, later_sets, writer_rows, written, later_output, back_rows, arity_back, pair_back}
 use Rattle.meaning.specs.Saved.{saved_words, row8-words, widen_rows, widened_count, later_words}
 use Rattle.refusal.specs.Told.{told}
+use Rattle.refusal.specs.declared.Degrees.{Degrees as Found}
+use Rattle.refusal.specs.declared.Refusal.{Refusal}
 use Rattle.refusal.specs.declared.Refusal.TheVariants.{Layout, Counts, Arity as HighArity, Pair as BadPair, Cut, Pattern, Heading, Room, Clash, NoForm, NoSymbol, Absent}
 use Rattle.writer.specs.Said.{said}
-use Rattle.writer.specs.declared.Writing.{Writing}
-use Rattle.writer.specs.declared.Writing.TheVariants.{Written, Refused as NotWritten}
 use Rattle.refusal.specs.Outcomes.{said_match}
-use Rattle.refusal.specs.declared.Outcome.{Outcome}
-use Rattle.refusal.specs.declared.Outcome.TheVariants.{Match, Refused as NoMatch}
-use Rattle.tables.specs.declared.TableAnswer.{TableAnswer}
-use Rattle.tables.specs.declared.TableAnswer.TheVariants.{Table as IsOne, Refused as NoTable}
-use Rattle.tables.specs.declared.DegreeAnswer.{DegreeAnswer}
-use Rattle.tables.specs.declared.DegreeAnswer.TheVariants.{Degree, Refused as NoDegree}
-use Rattle.tables.specs.declared.ArityAnswer.{ArityAnswer}
-use Rattle.tables.specs.declared.ArityAnswer.TheVariants.{Arity, Refused as NoArity}
-use Rattle.tables.specs.declared.PairAnswer.{PairAnswer}
-use Rattle.tables.specs.declared.PairAnswer.TheVariants.{Listed, Refused as NoPair}
 use Rattle.tables.specs.Tables.{said_table, said_degree, said_arity, said_pair}
+use Rattle.table.specs.declared.read.Pair.{Pair as Record}
 use Rattle.records.specs.Records.{listed}
 use Rattle.marc.specs.Known.{known_in}
 use Rattle.marc.specs.Heading.{later_nodes}
@@ -67,22 +59,22 @@ seven T list = placed_said told 7 _ Heading (λ i. refl)
 
 -- ---- call by call
 
-table_met : (table : List ℕ) → (r : TableAnswer) × (said_table r ≡ is_table_lem table)
+table_met : (table : List ℕ) → (r : Result (Unit {0}) Refusal) × (said_table r ≡ is_table_lem table)
 unfolding is_table_lem table_rows
-table_met table = sayable told said_table (λ a. IsOne) NoTable yes_said (λ why. refl) (table_rows table) (table_said table) aye
+table_met table = sayable told said_table (λ a. tt) yes_said (λ why. refl) (table_rows table) (table_said table) aye
   where
-    yes_said : (a : Yes) → said_table IsOne ≡ gives a
+    yes_said : (a : Yes) → said_table (Ok tt) ≡ gives a
     yes_said aye = refl
 
-symbol_met : (table : List ℕ) (a b : ℕ) → (r : DegreeAnswer) × (said_degree r ≡ symbol_degree_lem table a b)
+symbol_met : (table : List ℕ) (a b : ℕ) → (r : Result ℕ Refusal) × (said_degree r ≡ symbol_degree_lem table a b)
 unfolding symbol_degree_lem symbol_rows row13
 symbol_met table a b =
-    sayable told said_degree Degree NoDegree (λ n. refl) (λ why. refl) (symbol_rows table a b) (all_append (Sayable told) (table_rows table) _ (table_said table) (placed_said told 13 _ NoSymbol (λ i. refl), tt)) ((table_in table).deg a b)
+    sayable told said_degree (λ n. n) (λ n. refl) (λ why. refl) (symbol_rows table a b) (all_append (Sayable told) (table_rows table) _ (table_said table) (placed_said told 13 _ NoSymbol (λ i. refl), tt)) ((table_in table).deg a b)
 
-heading_met : (table one two : List ℕ) → (r : DegreeAnswer) × (said_degree r ≡ heading_degree table one two)
+heading_met : (table one two : List ℕ) → (r : Result ℕ Refusal) × (said_degree r ≡ heading_degree table one two)
 unfolding heading_degree degree_rows
 heading_met table one two =
-    sayable told said_degree Degree NoDegree (λ n. refl) (λ why. refl) (degree_rows table one two)
+    sayable told said_degree (λ n. n) (λ n. refl) (λ why. refl) (degree_rows table one two)
     (all_append (Sayable told) (table_rows table) _ (table_said table) (six (table_in table) false one, (seven (table_in table) two, tt))) _
 
 input_said : (table pattern heading : List ℕ) (cut : ℕ) (spans sets : List ℕ) → All (Sayable told) (input_rows table pattern heading cut spans sets)
@@ -103,43 +95,43 @@ search_said : (table pattern heading : List ℕ) (cut : ℕ) → All (Sayable to
 unfolding search_rows row9 row10
 search_said table pattern heading cut = (placed_said told 9 _ Clash (λ i. refl), (placed_said told 10 _ NoForm (λ i. refl), tt))
 
-match_met : (table pattern heading : List ℕ) (cut : ℕ) (spans sets : List ℕ) → (r : Outcome) × (said_match r ≡ matched table pattern heading cut spans sets)
+match_met : (table pattern heading : List ℕ) (cut : ℕ) (spans sets : List ℕ) → (r : Result Found Refusal) × (said_match r ≡ matched table pattern heading cut spans sets)
 unfolding matched match_rows
 match_met table pattern heading cut spans sets =
-    sayable told said_match outcome_for NoMatch outcome_said (λ why. refl) (match_rows table pattern heading cut spans sets)
+    sayable told said_match outcome_for outcome_said (λ why. refl) (match_rows table pattern heading cut spans sets)
     (all_append (Sayable told) (input_rows table pattern heading cut spans sets) _ (input_said table pattern heading cut spans sets) (search_said table pattern heading cut)) _
   where
-    outcome_for : Degrees → Outcome
-    outcome_for (degrees low high) = Match low high
+    outcome_for : Degrees → Found
+    outcome_for (degrees low high) = record { lowest = low; highest = high }
 
-    outcome_said : (d : Degrees) → said_match (outcome_for d) ≡ gives d
+    outcome_said : (d : Degrees) → said_match (Ok (outcome_for d)) ≡ gives d
     outcome_said (degrees low high) = refl
 
-writer_met : (arities : List ℕ) (pairs : List Pair) (output : List ℕ) → (r : Writing) × (said r ≡ written arities pairs output)
+writer_met : (arities : List ℕ) (pairs : List Pair) (output : List ℕ) → (r : Result ℕ Refusal) × (said r ≡ written arities pairs output)
 unfolding written writer_rows row3 row4
 writer_met arities pairs output =
-    sayable told said Written NotWritten (λ n. refl) (λ why. refl) (writer_rows arities pairs output)
+    sayable told said (λ n. n) (λ n. refl) (λ why. refl) (writer_rows arities pairs output)
     (counts_said _ _, (placed_said told 3 _ HighArity (λ i. refl), (placed_said told 4 _ BadPair (λ i. refl), (room_said _ output, tt)))) _
 
 back_said : (table : List ℕ) (index count : ℕ) → All (Sayable told) (back_rows table index count)
 unfolding back_rows row14
 back_said table index count = all_append (Sayable told) (table_rows table) _ (table_said table) (zero-said told 14 (not (ltb index count)) Absent refl, tt)
 
-arity_met : (table : List ℕ) (a : ℕ) → (r : ArityAnswer) × (said_arity r ≡ arity_back table a)
+arity_met : (table : List ℕ) (a : ℕ) → (r : Result ℕ Refusal) × (said_arity r ≡ arity_back table a)
 unfolding arity_back
-arity_met table a = sayable told said_arity Arity NoArity (λ n. refl) (λ why. refl) (back_rows table a (symbol_count_lem table)) (back_said table a (symbol_count_lem table)) _
+arity_met table a = sayable told said_arity (λ n. n) (λ n. refl) (λ why. refl) (back_rows table a (symbol_count_lem table)) (back_said table a (symbol_count_lem table)) _
 
-pair_met : (table : List ℕ) (k : ℕ) → (r : PairAnswer) × (said_pair r ≡ pair_back table k)
+pair_met : (table : List ℕ) (k : ℕ) → (r : Result Record Refusal) × (said_pair r ≡ pair_back table k)
 unfolding pair_back
-pair_met table k = sayable told said_pair (λ p. Listed (record_of p)) NoPair record_said (λ why. refl) (back_rows table k (pair_count_lem table)) (back_said table k (pair_count_lem table)) _
+pair_met table k = sayable told said_pair record_of record_said (λ why. refl) (back_rows table k (pair_count_lem table)) (back_said table k (pair_count_lem table)) _
   where
-    record_said : (p : Pair) → said_pair (Listed (record_of p)) ≡ gives p
+    record_said : (p : Pair) → said_pair (Ok (record_of p)) ≡ gives p
     record_said (pair l h d) = refl
 
-widen_met : (words output : List ℕ) → (r : Writing) × (said r ≡ widened_count words output)
+widen_met : (words output : List ℕ) → (r : Result ℕ Refusal) × (said r ≡ widened_count words output)
 unfolding widened_count widen_rows row8-words
 widen_met words output =
-    sayable told said Written NotWritten (λ n. refl) (λ why. refl) (widen_rows words output)
+    sayable told said (λ n. n) (λ n. refl) (λ why. refl) (widen_rows words output)
     (zero-said told 8 (not (eqb (length words % saved_words) 0)) Room refl, (room_said _ output, tt)) _
 
 -- results that are all allowed

@@ -14,8 +14,8 @@ use Rattle.marc.specs.Frame.{frame_rows, at_if}
 use Rattle.marc.specs.Known.{Known, row19}
 use Rattle.marc.specs.Heading.{missing, field100, name_in, dates_in, row20, row21, row22, unlisted, heading_rows, headed}
 use Rattle.exchange.specs.Said.{told, said}
-use Rattle.exchange.specs.declared.Headed.{Headed}
-use Rattle.exchange.specs.declared.Headed.TheVariants.{Written, Refused}
+use Rattle.std.specs.Prelude.{Result, Ok}
+use Rattle.exchange.specs.declared.Fault.{Fault}
 use Rattle.exchange.specs.declared.Fault.TheVariants.{List as ListFault, Room, Frame, NoField, NoName, UnlistedName, UnlistedDates}
 use Rattle.demands.proofs.Sayable.{Sayable, zero-said, placed_said, sayable}
 
@@ -44,9 +44,9 @@ rows_said r ks heading absent output = (
 )
 
 -- LAW
-pub record_met : (r : List ℕ) (ks : List Known) (heading absent : ℕ) (output : List ℕ) → (h : Headed) × (said h ≡ headed r ks heading absent output)
+pub record_met : (r : List ℕ) (ks : List Known) (heading absent : ℕ) (output : List ℕ) → (h : Result (Unit {0}) Fault) × (said h ≡ headed r ks heading absent output)
 unfolding headed
-record_met r ks heading absent output = sayable told said (λ a. Written) Refused yes_said (λ why. refl) (heading_rows r ks heading absent output) (rows_said r ks heading absent output) aye
+record_met r ks heading absent output = sayable told said (λ a. tt) yes_said (λ why. refl) (heading_rows r ks heading absent output) (rows_said r ks heading absent output) aye
   where
-    yes_said : (a : Yes) → said Written ≡ gives a
+    yes_said : (a : Yes) → said (Ok tt) ≡ gives a
     yes_said aye = refl

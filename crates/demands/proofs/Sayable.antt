@@ -5,6 +5,7 @@ use mathlib.Core.List.{List, [], ◌∷◌}
 use mathlib.Core.Bool.{Bool, true, false}
 use mathlib.Core.Option.{Option, none, some as just, none-ne-some}
 use Prim.Native.Nat.{ℕ}
+use Rattle.std.specs.Prelude.{Result, Ok, Err}
 use Rattle.theory.specs.Least.{All}
 use Rattle.meaning.specs.Refusals.{Refusal as Given, refusal, Row, row, row_number, row_place, first, at0}
 use Rattle.meaning.specs.Calls.{Answer, gives, refused_as, unless}
@@ -35,11 +36,11 @@ module _ {R : Type 0} (told : R → Given) where
       (w.0, w.1 ∙ f)
   first_said (row n none ∷ rows) s r e = first_said rows s.1 r e
 
-  -- LAW: so an answer that has a case for what is given, and one for each refusal, can say what a call with these rows does
-  module _ {A B : Type 0} (says : B → Answer A) (give : A → B) (refuse : R → B) (gave : (a : A) → says (give a) ≡ gives a) (refused_so : (why : R) → says (refuse why) ≡ refused_as (told why)) where
-    pub sayable : (rows : List Row) → All Sayable rows → (a : A) → (b : B) × (says b ≡ unless (first rows) a)
+  -- LAW: so a result whose value says what is given, and whose error has a case for each refusal, can say what a call with these rows does
+  module _ {A B : Type 0} (says : Result B R → Answer A) (give : A → B) (gave : (a : A) → says (Ok (give a)) ≡ gives a) (refused_so : (why : R) → says (Err why) ≡ refused_as (told why)) where
+    pub sayable : (rows : List Row) → All Sayable rows → (a : A) → (r : Result B R) × (says r ≡ unless (first rows) a)
     sayable rows s a = go (first rows) (first_said rows s)
       where
-        go : (o : Option Given) → ((r : Given) → o ≡ just r → (why : R) × (told why ≡ r)) → (b : B) × (says b ≡ unless o a)
-        go none f = (give a, gave a)
-        go (just r) f = let w = f r refl in (refuse w.0, refused_so w.0 ∙ ap refused_as w.1)
+        go : (o : Option Given) → ((r : Given) → o ≡ just r → (why : R) × (told why ≡ r)) → (r : Result B R) × (says r ≡ unless o a)
+        go none f = (Ok (give a), gave a)
+        go (just r) f = let w = f r refl in (Err w.0, refused_so w.0 ∙ ap refused_as w.1)

@@ -25,7 +25,7 @@ use Rattle.capi.specs.Terms.{count_of, chosen}
 use Rattle.capi.specs.Matching.{ShxMatch}
 use Rattle.capi.specs.Writing.{ShxWriteTable}
 use Rattle.capi.specs.Marc.{highest_place, wide_coded, ShxMarcHeading}
-use Rattle.capi.proofs.Wide.{told_itself}
+use Rattle.capi.proofs.OneCapi.{told_itself}
 use Rattle.demands.specs.Program.{Promise}
 use Rattle.demands.specs.Public.{records_of}
 use Rattle.demands.specs.ForC.{Cell, CWriting, CCalls, CKept, most_strings, answer_of, program_of_c, subterm_of, nearer_of, heading_of, InRange, Untouched, RefusedLeaves}

@@ -1,16 +1,12 @@
 -- The public calls as users run them: any results, and any later contents of lent memory, that the calls' promises allow. (That each call's code ensures its
 -- promise, and asks for nothing, is proved in the call's crate, proofs/Tied.)
-use Rattle.std.specs.Prelude.{List, map, ℕ}
+use Rattle.std.specs.Prelude.{List, map, ℕ, Result}
 use Rattle.theory.specs.Pairs.{Pair, pair}
 use Rattle.table.specs.declared.read.Pair.{Pair as Record}
 use Rattle.writer.specs.Said.{said}
-use Rattle.writer.specs.declared.Writing.{Writing}
 use Rattle.refusal.specs.Outcomes.{result_of}
-use Rattle.refusal.specs.declared.Outcome.{Outcome}
-use Rattle.tables.specs.declared.TableAnswer.{TableAnswer}
-use Rattle.tables.specs.declared.DegreeAnswer.{DegreeAnswer}
-use Rattle.tables.specs.declared.ArityAnswer.{ArityAnswer}
-use Rattle.tables.specs.declared.PairAnswer.{PairAnswer}
+use Rattle.refusal.specs.declared.Degrees.{Degrees}
+use Rattle.refusal.specs.declared.Refusal.{Refusal}
 use Rattle.tables.specs.Tables.{said_table, IsTable, said_degree, SymbolDegree, said_arity, ArityOf, said_pair, PairAt}
 use Rattle.headings.specs.Terms.{Nodes, DegreeOfHeadings, Subterm, Nearer}
 use Rattle.matches.specs.Matching.{MatchHeading}
@@ -19,36 +15,36 @@ use Rattle.records.specs.Records.{WriteRecords}
 use Rattle.saved.specs.Widening.{Widen}
 use Rattle.exchange.specs.Said.{said as saidHeading}
 use Rattle.exchange.specs.Heading.{ReadHeading}
-use Rattle.exchange.specs.declared.Headed.{Headed}
+use Rattle.exchange.specs.declared.Fault.{Fault}
 use Rattle.demands.specs.Program.{Program}
 
 -- What a match, a call that writes, and one that reads a heading, returned and left.
 pub record Matching : Type 0 where
-  pub outcome : Outcome
+  pub outcome : Result Degrees Refusal
   pub spans : List ℕ
   pub sets : List ℕ
 
 pub record Written : Type 0 where
-  pub writing : Writing
+  pub writing : Result ℕ Refusal
   pub output : List ℕ
 
 pub record ReadFrom : Type 0 where
-  pub headed : Headed
+  pub headed : Result (Unit {0}) Fault
   pub nodes : List ℕ
 
 -- What each call returned, for everything that was lent to it. A subterm and the nearer are handed back as references. There are two writers: one takes
 -- records, the other numbers, three to a pair.
 pub record Calls : Type 0 where
-  pub is_table_lem : List ℕ → TableAnswer
-  pub symbol_degree_lem : List ℕ → ℕ → ℕ → DegreeAnswer
-  pub heading_degree : List ℕ → List ℕ → List ℕ → DegreeAnswer
+  pub is_table_lem : List ℕ → Result (Unit {0}) Refusal
+  pub symbol_degree_lem : List ℕ → ℕ → ℕ → Result ℕ Refusal
+  pub heading_degree : List ℕ → List ℕ → List ℕ → Result ℕ Refusal
   pub subterm : List ℕ → Nodes → ℕ → Nodes
   pub nearer : List ℕ → List ℕ → Nodes → Nodes → Nodes
   pub match : (table pattern heading : List ℕ) (cut : ℕ) (spans sets : List ℕ) → Matching
   pub write_records_lem : (arities : List ℕ) (records : List Record) (output : List ℕ) → Written
   pub write_table_lem : (arities numbers output : List ℕ) → Written
-  pub arity_of_lem : List ℕ → ℕ → ArityAnswer
-  pub pair_of : List ℕ → ℕ → PairAnswer
+  pub arity_of_lem : List ℕ → ℕ → Result ℕ Refusal
+  pub pair_of : List ℕ → ℕ → Result Record Refusal
   pub widen : (words output : List ℕ) → Written
   pub marc_heading : (bytes text ends numbers : List ℕ) (heading absent : ℕ) (nodes : List ℕ) → ReadFrom
 
