@@ -1,21 +1,30 @@
-// The calls, a kind of case for each: here those that take no term.
-use crate::input::Header;
+// The calls, by the kind of case.
+use crate::input::{Header, Kind};
 use crate::saves::ask_widen;
 use crate::writes::ask_write;
 use crate::{on_records, on_terms, say};
+use std::io;
 use tables::{arity_of, is_table, pair_of, symbol_degree};
 
-pub fn ask(rt: HostRuntime, header: Header, table: &[u8], first: &[u16]) {
+pub fn ask(
+    rt: HostRuntime,
+    kind: Kind,
+    header: Header,
+    table: &[u8],
+    first: &[u8],
+) -> io::Result<()> {
     let asked = header.asked;
-    let kind = asked.kind;
     match kind {
-        1 => say::degree(rt, symbol_degree(table, asked.x, asked.y)),
-        6 => say::table(rt, is_table(table)),
-        7 => say::arity(rt, arity_of(table, asked.x)),
-        8 => say::pair(rt, pair_of(table, asked.x as usize + asked.y as usize)),
-        9 => ask_write(rt, asked.x, table, first),
-        10 => ask_widen(rt, asked.x, first),
-        11 => on_records::ask(rt, header, table, first),
-        _ => on_terms::ask(rt, header, table, first),
+        Kind::SymbolDegree => say::degree(rt, symbol_degree(table, asked.x, asked.y)),
+        Kind::Table => say::table(rt, is_table(table)),
+        Kind::Arity => say::arity(rt, arity_of(table, asked.x)),
+        Kind::Pair => say::pair(
+            rt,
+            pair_of(table, usize::from(asked.x) + usize::from(asked.y)),
+        ),
+        Kind::Write => ask_write(rt, asked.x, table, first),
+        Kind::Widen => ask_widen(rt, asked.x, first),
+        Kind::Record => on_records::ask(rt, header, table, first),
+        Kind::Terms(which) => on_terms::ask(rt, which, header, table, first),
     }
 }

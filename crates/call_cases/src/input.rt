@@ -1,117 +1,134 @@
 // The cases as standard input has them. A case is a header of nine numbers, a list of bytes (the table, the arities to be written, or a record) and
 // three lists of numbers (nodes, the pairs to be written, or words, four numbers to each). With a record the lists are where the known strings end, two
 // numbers to each end, the strings' numbers, and the strings themselves, in bytes. Numbers are two bytes each, low byte first.
-ghost use Rattle.std.specs.Prelude.{◌≤◌};
-ghost use Rattle.io.specs.Counts.{IsPrefixLen};
-
 use std::io::Read;
-use table::number::number_at;
 
-// Room for the bytes of a case, for each list, and for the known strings.
+// Room for the bytes of a case, for each list, for a list's bytes, and for the known strings.
 pub const BYTES: usize = 99999;
 
 pub const LONGEST: usize = 24579;
 
+pub const LISTED: usize = 2 * LONGEST;
+
 pub const TEXT: usize = 65535;
 
-// Which call, and the numbers that it takes besides the lists.
+// The calls, a kind of case for each.
+#[derive(Clone, Copy)]
+pub enum Kind {
+    SymbolDegree,
+    Table,
+    Arity,
+    Pair,
+    Write,
+    Widen,
+    Record,
+    Terms(OnTerms),
+}
+
+// Those that take terms.
+#[derive(Clone, Copy)]
+pub enum OnTerms {
+    Degree,
+    Subterm,
+    Nearer,
+    Match,
+}
+
+pub struct NoSuchKind;
+
+impl TryFrom<u16> for Kind {
+    type Error = NoSuchKind;
+
+    fn try_from(number: u16) -> Result<Kind, NoSuchKind> {
+        match number {
+            1 => Ok(Kind::SymbolDegree),
+            2 => Ok(Kind::Terms(OnTerms::Degree)),
+            3 => Ok(Kind::Terms(OnTerms::Subterm)),
+            4 => Ok(Kind::Terms(OnTerms::Nearer)),
+            5 => Ok(Kind::Terms(OnTerms::Match)),
+            6 => Ok(Kind::Table),
+            7 => Ok(Kind::Arity),
+            8 => Ok(Kind::Pair),
+            9 => Ok(Kind::Write),
+            10 => Ok(Kind::Widen),
+            11 => Ok(Kind::Record),
+            _ => Err(NoSuchKind),
+        }
+    }
+}
+
+// The numbers that a call takes besides the lists.
 #[derive(Clone, Copy)]
 pub struct Asked {
-    pub kind: u16,
     pub x: u16,
     pub y: u16,
     pub z: u16,
 }
 
-// What is asked, and how many bytes and numbers the lists have. The bytes may be more than 65,535, so their count is told as two numbers.
+// What is asked, and how many bytes and numbers the lists have.
 #[derive(Clone, Copy)]
 pub struct Header {
+    pub kind: u16,
     pub asked: Asked,
-    pub bytes: u16,
-    pub more: u16,
+    pub bytes: usize,
     pub first: u16,
     pub second: u16,
     pub third: u16,
 }
 
-#[derive(Clone, Copy)]
-pub enum Next {
-    Case(Header),
-    End,
-}
-
-pub fn read_header(rt: HostRuntime) -> Next {
+// None where the input has no more. The bytes of a case may be more than 65,535, so their count is told as two numbers.
+pub fn read_header(rt: HostRuntime) -> Option<Header> {
     let mut numbers = [0u16; 9];
-    if read_numbers(rt, &mut numbers, 9) < 9 {
-        return Next::End;
-    }
-    let asked = Asked {
-        kind: numbers[0],
-        x: numbers[6],
-        y: numbers[7],
-        z: numbers[8],
+    let [kind, bytes, more, first, second, third, x, y, z] = read_numbers(rt, &mut numbers, 9)
+    else {
+        return None;
     };
-    Next::Case(Header {
-        asked,
-        bytes: numbers[1],
-        more: numbers[2],
-        first: numbers[3],
-        second: numbers[4],
-        third: numbers[5],
+    Some(Header {
+        kind: *kind,
+        asked: Asked {
+            x: *x,
+            y: *y,
+            z: *z,
+        },
+        bytes: usize::from(*bytes) + usize::from(*more),
+        first: *first,
+        second: *second,
+        third: *third,
     })
 }
 
-pub fn least(a: usize, b: usize) -> usize
-    ensures { (result ≤ a) × (result ≤ b) }
-{
-    if a < b { a } else { b }
-}
-
-// Reads so many bytes to the front of the buffer, fewer where it or the input ends; answers how many.
-pub fn read_bytes(rt: HostRuntime, buffer: &mut [u8], count: usize) -> usize
-    ensures { IsPrefixLen result buffer.new }
-{
-    let n = least(count, buffer.len());
-    read_full(rt, &mut buffer[..n])
-}
-
-// Reads until the buffer is full, the input ends or a read fails; answers how many bytes were read.
-fn read_full(rt: HostRuntime, buffer: &mut [u8]) -> usize
-    ensures { IsPrefixLen result buffer.new }
-{
+// Reads so many bytes to the front of the buffer, fewer where it or the input ends, and hands them back.
+pub fn read_bytes<'a>(rt: HostRuntime, buffer: &'a mut [u8], count: usize) -> &'a [u8] {
+    let room = count.min(buffer.len());
     let mut done = 0;
-    while done < buffer.len() {
-        match rt.stdin().read(&mut buffer[done..]) {
-            Ok(more) => {
-                if more == 0 {
-                    return done;
-                }
-                done += more;
-            }
-            Err(_) => {
-                return done;
-            }
+    while done < room {
+        match rt.stdin().read(&mut buffer[done..room]) {
+            Ok(0) => break,
+            Ok(more) => done += more,
+            Err(_) => break,
         }
     }
-    done
+    &buffer[..done]
 }
 
-// Reads so many numbers to the front of the list, fewer where it or the input ends; answers how many.
-pub fn read_numbers(rt: HostRuntime, list: &mut [u16], count: u16) -> usize
-    ensures { IsPrefixLen result list.new }
-{
-    let mut bytes = io::large_buffer();
-    let n = read_bytes(rt, &mut bytes, 2 * count as usize);
-    numbers_of(&bytes[..n], list)
+// Reads so many numbers to the front of the list, fewer where it or the input ends, and hands them back.
+pub fn read_numbers<'a>(rt: HostRuntime, list: &'a mut [u16], count: u16) -> &'a [u16] {
+    let mut buffer = [0u8; LISTED];
+    let bytes = read_bytes(rt, &mut buffer, 2 * usize::from(count));
+    values_of(bytes.as_chunks().0, list, u16::from_le_bytes)
 }
 
-// Puts the numbers that the bytes write to the front of the list; answers how many.
-pub fn numbers_of(bytes: &[u8], list: &mut [u16]) -> usize
-    ensures { IsPrefixLen result list.new }
+// Puts the values that are so written to the front of the list, and hands them back.
+pub fn values_of<'a, A: Copy, T: Copy, F: Fn(A) -> T>(
+    written: &[A],
+    list: &'a mut [T],
+    value: F,
+) -> &'a [T]
+    requires { F.IsAlwaysCallable value }
 {
-    let n = least(bytes.len() / 2, list.len());
-    for i in 0..n {
-        list[i] = number_at(bytes, 2 * i);
+    let count = written.len().min(list.len());
+    for (place, one) in list.iter_mut().zip(written) {
+        *place = value(*one);
     }
-    n
+    &list[..count]
 }

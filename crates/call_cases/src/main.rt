@@ -11,33 +11,33 @@ mod saves;
 mod say;
 mod writes;
 
-use input::{BYTES, Header, LONGEST, Next};
+use input::{BYTES, Header, Kind, LISTED, NoSuchKind};
+use std::io;
 
-fn answer(rt: HostRuntime, header: Header) {
-    let mut bytes = [0u8; BYTES];
-    let n = input::read_bytes(rt, &mut bytes, header.bytes as usize + header.more as usize);
-    let mut first = [0u16; LONGEST];
-    let m = input::read_numbers(rt, &mut first, header.first);
-    ask::ask(rt, header, &bytes[..n], &first[..m]);
-}
-
-// Answers the next case; says whether there was one.
-fn answer_next(rt: HostRuntime, case: u16) -> bool {
-    match input::read_header(rt) {
-        Next::Case(header) => {
-            say::one(rt, b"", case as u64);
-            answer(rt, header);
-            say::text(rt, b"\n");
-            true
-        }
-        Next::End => false,
+fn answer(rt: HostRuntime, header: Header) -> io::Result<()> {
+    let mut room = [0u8; BYTES];
+    let bytes = input::read_bytes(rt, &mut room, header.bytes);
+    let mut listed = [0u8; LISTED];
+    let first = input::read_bytes(rt, &mut listed, 2 * usize::from(header.first));
+    match Kind::try_from(header.kind) {
+        Ok(kind) => ask::ask(rt, kind, header, bytes, first),
+        Err(NoSuchKind) => print!(rt; " no such kind"),
     }
 }
 
-// Nothing says that the input ends, so the cases are counted.
+// Answers every case, up to 65,535: nothing says that the input ends.
+fn answer_all(rt: HostRuntime) -> io::Result<()> {
+    for case in 0..65535u16 {
+        let Some(header) = input::read_header(rt) else {
+            break;
+        };
+        print!(rt; "{case}")?;
+        answer(rt, header)?;
+        println!(rt;)?;
+    }
+    Ok(())
+}
+
 fn main(rt: HostRuntime) {
-    let mut case: u16 = 0;
-    while case < 65535 && answer_next(rt, case) {
-        case += 1;
-    }
+    let _ = answer_all(rt);
 }

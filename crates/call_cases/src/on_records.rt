@@ -1,40 +1,27 @@
 // The call that takes an exchange record. As with a match, the front of a buffer is lent that is full of one number, and it is shown whole.
-ghost use Rattle.std.specs.Prelude.{◌+◌, ◌≤◌, length};
-ghost use Rattle.io.specs.Counts.{IsPrefixLen};
-
 use crate::buffers::GUARD;
-use crate::input::{Asked, Header, LONGEST, TEXT, least};
-use crate::{input, say};
-use exchange::{Headed, read_heading};
+use crate::input::{Asked, Header, LONGEST, TEXT, read_bytes, read_numbers, values_of};
+use crate::say;
+use exchange::{Fault, read_heading};
+use std::io;
 
 // More numbers than any case lends.
 const NODES: usize = 6;
 
-pub fn ask(rt: HostRuntime, header: Header, bytes: &[u8], first: &[u16]) {
-    let mut ends = [0u32; LONGEST];
-    let m = ends_of(first, &mut ends);
-    let mut numbers = [0u16; LONGEST];
-    let n = input::read_numbers(rt, &mut numbers, header.second);
-    ask_of(
-        rt,
-        header.asked,
-        header.third,
-        bytes,
-        &ends[..m],
-        &numbers[..n],
-    );
-}
-
-// The strings themselves come last.
-fn ask_of(rt: HostRuntime, asked: Asked, count: u16, bytes: &[u8], ends: &[u32], numbers: &[u16]) {
-    let mut text = [0u8; TEXT];
-    let n = input::read_bytes(rt, &mut text, count as usize);
+// The strings themselves come last. An end has two numbers, the low one first.
+pub fn ask(rt: HostRuntime, header: Header, bytes: &[u8], first: &[u8]) -> io::Result<()> {
+    let mut places = [0u32; LONGEST];
+    let ends = values_of(first.as_chunks().0, &mut places, u32::from_le_bytes);
+    let mut listed = [0u16; LONGEST];
+    let numbers = read_numbers(rt, &mut listed, header.second);
+    let mut room = [0u8; TEXT];
+    let text = read_bytes(rt, &mut room, usize::from(header.third));
     let mut nodes = [GUARD; NODES];
     say::headed(
         rt,
-        lend(asked, bytes, &text[..n], ends, numbers, &mut nodes),
-    );
-    say::part(rt, b" output ", &nodes);
+        lend(header.asked, bytes, text, ends, numbers, &mut nodes),
+    )?;
+    say::nodes(rt, "output", &nodes)
 }
 
 // The call, with the front of the output.
@@ -45,8 +32,8 @@ fn lend(
     ends: &[u32],
     numbers: &[u16],
     nodes: &mut [u16],
-) -> Headed {
-    let n = least(asked.z as usize, nodes.len());
+) -> Result<(), Fault> {
+    let n = usize::from(asked.z).min(nodes.len());
     read_heading(
         bytes,
         text,
@@ -56,26 +43,4 @@ fn lend(
         asked.y,
         &mut nodes[..n],
     )
-}
-
-// Puts the ends that the numbers write, two to an end, to the front of the list; answers how many.
-fn ends_of(numbers: &[u16], ends: &mut [u32]) -> usize
-    ensures { IsPrefixLen result ends.new }
-{
-    let n = least(numbers.len() / 2, ends.len());
-    for i in 0..n {
-        ends[i] = end_at(numbers, 2 * i);
-    }
-    n
-}
-
-// The end of two numbers, the low one first.
-fn end_at(numbers: &[u16], at: usize) -> u32
-    requires { at + 2 ≤ length numbers.now }
-{
-    half(numbers[at]) | half(numbers[at + 1]) << 16
-}
-
-fn half(n: u16) -> u32 {
-    n as u32
 }

@@ -1,7 +1,0 @@
--- A number has two bytes, and there are no more numbers than the list has room for.
-use native.Mathlib.Omega.{arith}
-use Rattle.io.proofs.Counting.{prefix_len_of_le}
-use Rattle.call_cases.proofs.input.numbers_of.Goals as goal
-
-pub returns : goal.returns
-returns c = prefix_len_of_le _ _ (omega arith)

@@ -1,8 +1,0 @@
--- What each turn of the loop keeps.
-use Prim.Native.Nat.{◌≤◌, ◌*◌}
-use mathlib.Core.Path.{◌≡◌}
-use lib.ListN.{length}
-use Rattle.call_cases.proofs.saves.words_of.Given as goal
-
-abbrev pub invariant-loop-i : goal.invariant-loop-i
-invariant-loop-i l = (l.n * 4 ≤ length l.numbers) × (l.n ≤ length l.initial.words) × (length l.words ≡ length l.initial.words)
