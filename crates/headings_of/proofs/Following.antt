@@ -6,6 +6,7 @@ use mathlib.Core.Bool.{false}
 use Prim.Native.Nat.{ℕ, ◌+◌, ◌≤◌}
 use native.Mathlib.Omega.{arith}
 use lib.ListN.{length, length-append}
+use Rattle.std.specs.Prelude.{Option, Some, None, Result, Ok, Err}
 use Rattle.marc.specs.Known.{Known}
 use Rattle.marc.specs.Stream.{records_in}
 use Rattle.marc.specs.Printed.{text_from, headings_text}
@@ -16,11 +17,10 @@ use Rattle.marc_input.specs.declared.rest.Rest.{Rest}
 use Rattle.marc_input.specs.Rests.{rest_in, MayFollow}
 use Rattle.marc_input.specs.Passing.{uncounted}
 use Rattle.output.proofs.Saying.{passed_none, passed_then}
+use Rattle.output.specs.declared.pending.Failed.{Failed}
 use Rattle.headings_of.specs.declared.answering.Turn.{Turn}
-use Rattle.headings_of.specs.declared.answering.Turn.TheVariants.{Go, Stop, Failed}
-use Rattle.headings_of.specs.declared.Ending.{Ending}
-use Rattle.headings_of.specs.declared.Ending.TheVariants.{Turns}
-use Rattle.headings_of.specs.Turns.{Stands, ended, endless, TextOf, NoText, TurnBy, SaidSo, Finished, whole, uncountable, TurnsBy, ListSays, EndingBy}
+use Rattle.headings_of.specs.Turns.{ended, endless, TextOf, NoText, TurnTo, TurnBy, SaidSo, Finished, whole, uncountable, SpokenTo, TurnsBy}
+use Rattle.headings_of.specs.Endings.{ListSays}
 
 module _ (heading absent : ℕ) (ks : List Known) where
   abbrev from : ℕ → List ℕ → List ℕ
@@ -65,7 +65,7 @@ module _ (heading absent : ℕ) (ks : List Known) where
 
   module _ (k : ℕ) (before : List ℕ) where
     -- LAW: before the first turn nothing is read or said
-    pub turns_none : (buffer : List ℕ) → TurnsBy heading absent ks 0 buffer before (Go (record { at = 0; end = 0; over = false }) 0) before
+    pub turns_none : (buffer : List ℕ) → TurnsBy heading absent ks 0 buffer before (Ok (record { rest = Some (record { at = 0; end = 0; over = false }); standing = 0 })) before
     unfolding headings_text
     turns_none buffer = (
       (omega arith, omega arith),
@@ -73,56 +73,52 @@ module _ (heading absent : ℕ) (ks : List Known) where
     )
 
     -- LAW: one turn more
-    pub turns_more : (buffer mid : List ℕ) (rest : Rest) (used : ℕ) → TurnsBy heading absent ks k buffer before (Go rest used) mid
-        → (buffer' after : List ℕ) (turn : Turn) → TurnBy heading absent ks k buffer rest mid used turn buffer' after
-        → TurnsBy heading absent ks (k + 1) buffer' before turn after
-    turns_more buffer mid rest used (_, t) buffer' after (Go now standing) r = (
-      r.has.read.held,
-      record {
-        bytes = t.bytes ++ r.has.more;
-        text = t.text ++ r.next;
-        has = said_on k buffer rest t.bytes t.text t.has now buffer' r.next r.has;
-        written = t.written + r.written;
-        passed = passed_then (omega arith) t.passed r.passed refl;
-      },
-    )
-    turns_more buffer mid rest used (_, t) buffer' after (Stop standing) r = record {
-      bytes = t.bytes ++ r.has.1.0;
-      text = t.text ++ r.next;
-      has = said_all k buffer rest t.bytes t.text t.has r.next r.has;
-      written = t.written + r.written;
-      passed = passed_then (omega arith) t.passed r.passed refl;
-    }
-    turns_more buffer mid rest used t buffer' after Failed r = tt
+    pub turns_more : (buffer mid : List ℕ) (rest : Rest) (used : ℕ) → SpokenTo heading absent ks k buffer before (Some rest) used mid
+        → (buffer' after : List ℕ) (r : Result Turn Failed) → TurnBy heading absent ks k buffer rest mid used r buffer' after
+        → TurnsBy heading absent ks (k + 1) buffer' before r after
+    turns_more buffer mid rest used (_, t) buffer' after (Ok turn) r = go turn.rest r
+      where
+        go : (to : Option Rest) → TurnTo heading absent ks k buffer rest mid used to turn.standing buffer' after → SpokenTo heading absent ks (k + 1) buffer' before to turn.standing after
+        go (Some now) r = (
+          r.has.read.held,
+          record {
+            bytes = t.bytes ++ r.has.more;
+            text = t.text ++ r.next;
+            has = said_on k buffer rest t.bytes t.text t.has now buffer' r.next r.has;
+            written = t.written + r.written;
+            passed = passed_then (omega arith) t.passed r.passed refl;
+          },
+        )
+        go None r = record {
+          bytes = t.bytes ++ r.has.1.0;
+          text = t.text ++ r.next;
+          has = said_all k buffer rest t.bytes t.text t.has r.next r.has;
+          written = t.written + r.written;
+          passed = passed_then (omega arith) t.passed r.passed refl;
+        }
+    turns_more buffer mid rest used t buffer' after (Err failed) r = tt
 
-  module _ (k m : ℕ) (buffer before after : List ℕ) (turn : Turn) where
-    -- LAW: once the input is over, or a write has failed, more turns change nothing
-    pub turns_stop : (standing : ℕ) → turn ≡ Stop standing → TurnsBy heading absent ks k buffer before turn after → TurnsBy heading absent ks m buffer before turn after
-    turns_stop standing e t = subst (λ r. TurnsBy heading absent ks m buffer before r after) (sym e) (subst (λ r. TurnsBy heading absent ks k buffer before r after) e t)
+  -- LAW: once the input is over more turns change nothing
+  pub turns_over : (k m : ℕ) (buffer before after : List ℕ) (turn : Turn) → ((rest : Rest) → turn.rest ≡ Some rest → ⊥) → TurnsBy heading absent ks k buffer before (Ok turn) after
+      → TurnsBy heading absent ks m buffer before (Ok turn) after
+  turns_over k m buffer before after turn over = go turn.rest over
+    where
+      go : (to : Option Rest) → ((rest : Rest) → to ≡ Some rest → ⊥) → SpokenTo heading absent ks k buffer before to turn.standing after → SpokenTo heading absent ks m buffer before to turn.standing after
+      go (Some rest) n t = absurd (n rest refl)
+      go None n t = t
 
-    pub turns_failed : turn ≡ Failed → TurnsBy heading absent ks m buffer before turn after
-    turns_failed e = subst (λ r. TurnsBy heading absent ks m buffer before r after) (sym e) tt
-
-  -- what is still to be written lies in the buffer
-  turns_inside : (k : ℕ) (buffer before : List ℕ) (turn : Turn) (after : List ℕ) → TurnsBy heading absent ks k buffer before turn after → Stands (length after) turn
-  turns_inside k buffer before (Go rest standing) after t = tt
-  turns_inside k buffer before (Stop standing) after t = omega (arith, t.passed.inside, t.passed.same)
-  turns_inside k buffer before Failed after t = tt
+  -- LAW: what is still to be written lies in the buffer
+  pub turns_inside : (k : ℕ) (buffer before : List ℕ) (rest : Option Rest) (standing : ℕ) (after : List ℕ) → SpokenTo heading absent ks k buffer before rest standing after → standing ≤ length after
+  turns_inside k buffer before (Some rest) standing after t = omega (arith, t.1.passed.inside, t.1.passed.same)
+  turns_inside k buffer before None standing after t = omega (arith, t.passed.inside, t.passed.same)
 
 -- LAW: what is said by the strings that are lent is said by the list
-pub list_says : {file before buffer after : List ℕ} {turn : Turn} {heading absent : ℕ} {lent ks : List Known} → lent ≡ ks → ListFile file heading absent ks
-    → TurnsBy heading absent lent uncounted buffer before turn after → ListSays file before turn buffer after
-list_says {file} {before} {buffer} {after} {turn} {heading} {absent} {lent} {ks} e is turns = record {
+pub list_says : {file before buffer after : List ℕ} {r : Result Turn Failed} {heading absent : ℕ} {lent ks : List Known} → lent ≡ ks → ListFile file heading absent ks
+    → TurnsBy heading absent lent uncounted buffer before r after → ListSays file before r buffer after
+list_says {file} {before} {buffer} {after} {r} {heading} {absent} {lent} {ks} e is turns = record {
   heading = heading;
   absent = absent;
   ks = ks;
   is = is;
-  turns = subst (λ l. TurnsBy heading absent l uncounted buffer before turn after) e turns;
+  turns = subst (λ l. TurnsBy heading absent l uncounted buffer before r after) e turns;
 }
-
--- LAW: what is still to be written lies in the buffer
-pub ending_inside : (file before : List ℕ) (ending : Ending) (buffer after : List ℕ) (turn : Turn) → ending ≡ Turns turn
-    → EndingBy file before ending buffer after → Stands (length after) turn
-ending_inside file before ending buffer after turn e by =
-    let told = subst (λ r. EndingBy file before r buffer after) e by in
-    turns_inside told.heading told.absent told.ks uncounted buffer before turn after told.turns

@@ -14,8 +14,7 @@ use Rattle.marc.specs.Printed.{heading_word, long_decimal, record_word, record_l
 use Rattle.exchange.specs.Said.{told, said}
 use Rattle.exchange.specs.Heading.{ReadHeading}
 use Rattle.exchange.specs.declared.Fault.{Fault}
-use Rattle.exchange.specs.declared.Headed.{Headed}
-use Rattle.exchange.specs.declared.Headed.TheVariants.{Written, Refused}
+use Rattle.std.specs.Prelude.{Result, Ok, Err}
 use Rattle.output.proofs.Titles.{numbered_short}
 use Rattle.headings_of.specs.Rooms.{record_room}
 
@@ -35,9 +34,9 @@ three_nodes (a ∷ b ∷ c ∷ d ∷ more) l = absurd (omega arith)
 refusal_line : (why : Refusal) (nodes : List ℕ) → line (refused_word ∷ decimal (number_of why) ∷ long_decimal (place_of why) ∷ []) ≡ answer_line (refused_as why) nodes
 refusal_line (refusal n place) nodes = refl
 
-module _ (bytes text ends numbers : List ℕ) (heading absent : ℕ) (r : Headed) (later : List ℕ) (read : ReadHeading bytes text ends numbers heading absent (zeros 3) r later) where
+module _ (bytes text ends numbers : List ℕ) (heading absent : ℕ) (r : Result (Unit {0}) Fault) (later : List ℕ) (read : ReadHeading bytes text ends numbers heading absent (zeros 3) r later) where
   -- LAW: a heading's line
-  pub heading_is : r ≡ Written → line (heading_word ∷ map decimal later) ≡ answer_text heading absent (known_in text ends numbers) bytes
+  pub heading_is : r ≡ Ok tt → line (heading_word ∷ map decimal later) ≡ answer_text heading absent (known_in text ends numbers) bytes
   unfolding answer_text headed later_nodes heading_of
   heading_is e =
       let rows = heading_rows bytes (known_in text ends numbers) heading absent (zeros 3) in
@@ -47,7 +46,7 @@ module _ (bytes text ends numbers : List ℕ) (heading absent : ℕ) (r : Headed
       ap (λ ns. line (heading_word ∷ map decimal ns)) nodes ∙ ap (λ a. answer_line a (heading_of bytes (known_in text ends numbers) heading absent (zeros 3))) (sym written)
 
   -- LAW: a refusal's line
-  pub refusal_is : (why : Fault) → r ≡ Refused why
+  pub refusal_is : (why : Fault) → r ≡ Err why
       → line (refused_word ∷ decimal (number_of (told why)) ∷ long_decimal (place_of (told why)) ∷ []) ≡ answer_text heading absent (known_in text ends numbers) bytes
   unfolding answer_text
   refusal_is why e =

@@ -8,6 +8,7 @@ use native.Mathlib.Omega.{arith}
 use lib.ListN.{length}
 use Rattle.input.specs.Unreads.{unread}
 use Rattle.input.proofs.Unused.{length-unread}
+use Rattle.std.specs.Prelude.{None, Result, Ok, Err}
 use Rattle.marc.specs.Known.{Known}
 use Rattle.marc.specs.Printed.{record_line}
 use Rattle.marc.proofs.LongRecords.{long_answered}
@@ -18,15 +19,12 @@ use Rattle.marc_input.specs.Rests.{Held, rest_in}
 use Rattle.marc_input.specs.Passing.{NoMark, MarkBy}
 use Rattle.marc_input.specs.Cuts.{NextTo, NextBy}
 use Rattle.marc_input.proofs.Marks.{mark_there}
-use Rattle.output.specs.declared.pending.Pending.{Pending}
-use Rattle.output.specs.declared.pending.Pending.TheVariants.{Bytes, Failed as NotWritten}
-use Rattle.output.specs.Pendings.{Said}
+use Rattle.output.specs.declared.pending.Failed.{Failed}
 use Rattle.output.proofs.Saying.{passed_none}
 use Rattle.output.proofs.Turning.{Prepared, answered, unanswered, answered_behind, unanswered_behind}
 use Rattle.headings_of.specs.declared.answering.Turn.{Turn}
-use Rattle.headings_of.specs.declared.answering.Turn.TheVariants.{Stop}
 use Rattle.headings_of.specs.Texts.{record_text}
-use Rattle.headings_of.specs.Turns.{CutIn, go_on, ended, endless, CutSaid, TextOf, NoText, Waits, TurnBy}
+use Rattle.headings_of.specs.Turns.{CutIn, GoesOn, ended, endless, CutSaid, TextOf, NoText, Waits, TurnTo, TurnBy}
 
 -- LAW: no mark is found where none stands
 pub mark_at_end : (buffer : List ℕ) (rest : Rest) (mark : ℕ) → Held buffer rest → MarkBy (rest_in buffer rest) rest.at rest.end mark → NoMark (rest_in buffer rest) → mark ≡ rest.end
@@ -44,11 +42,6 @@ next_in_lem buffer rest Ended buffer' next = tt
 next_in_lem buffer rest Endless buffer' next = tt
 
 module _ (heading absent : ℕ) (ks : List Known) (k : ℕ) where
-  -- LAW: what is said of a cut that is told
-  pub cut_said : (buffer : List ℕ) (cut told : Cut) (before : List ℕ) (used : ℕ) (turn : Turn) (after : List ℕ) → cut ≡ told
-      → CutSaid heading absent ks k buffer told before used turn after → CutSaid heading absent ks k buffer cut before used turn after
-  cut_said buffer cut told before used turn after e said = subst (λ c. CutSaid heading absent ks k buffer c before used turn after) (sym e) said
-
   -- one that is too long has the text of no bytes
   long_text : (bytes : List ℕ) → 99999 < length bytes → record_text heading absent ks k [] ≡ record_text heading absent ks k bytes
   long_text bytes l = ap (λ t. record_line k ++ t) (sym (long_answered heading absent ks bytes l))
@@ -63,22 +56,22 @@ module _ (heading absent : ℕ) (ks : List Known) (k : ℕ) where
     }
 
     module _ (before : List ℕ) (used gone left : ℕ) (inside : used ≤ length before) (ready : Prepared (Waits buffer rest) before used gone left) (after : List ℕ) where
-      goes : (text : List ℕ) (now : Rest) → TextOf heading absent ks k buffer rest now buffer' text → (pending : Pending) → Said before left text pending after
-          → TurnBy heading absent ks k buffer rest before used (go_on now pending) buffer' after
-      goes text now is (Bytes written standing) said = answered_behind (λ t. t) inside ready (λ _ has. has) (answered (λ t. t) text is said)
-      goes text now is NotWritten said = λ idle. unanswered_behind (λ t. t) inside ready (λ _ has. has) idle (unanswered (λ t. t) text (now, is) after said)
+      goes : (text : List ℕ) (now : Rest) → TextOf heading absent ks k buffer rest now buffer' text → (r : Result Turn Failed) → GoesOn text now before left r after
+          → TurnBy heading absent ks k buffer rest before used r buffer' after
+      goes text now is (Ok turn) (to, written, said) =
+          let all = answered_behind (λ t. t) inside ready (λ _ has. has) (answered (λ t. t) text is (record { written = written; standing = turn.standing }) said) in
+          subst (λ rest'. TurnTo heading absent ks k buffer rest before used rest' turn.standing buffer' after) (sym to) all
+      goes text now is (Err failed) said = λ idle. unanswered_behind (λ t. t) inside ready (λ _ has. has) idle (unanswered (λ t. t) text (now, is) after failed said)
 
-      stops : NoText heading absent ks buffer rest [] → after ≡ before → TurnBy heading absent ks k buffer rest before used (Stop left) buffer' after
-      stops over e = answered_behind (λ t. t) inside ready (λ _ has. has) (answered (λ t. t) [] over (rw e (passed_none ready.passed.inside), λ _. refl))
+      stops : NoText heading absent ks buffer rest [] → after ≡ before → TurnBy heading absent ks k buffer rest before used (Ok (record { rest = None; standing = left })) buffer' after
+      stops over e = answered_behind (λ t. t) inside ready (λ _ has. has) (answered (λ t. t) [] over (record { written = 0; standing = left }) (rw e (passed_none ready.passed.inside), λ _. refl))
 
       -- LAW: the turn of what was cut off
-      pub turn_taken : (cut : Cut) → NextBy buffer rest cut buffer' → (turn : Turn) → CutSaid heading absent ks k buffer' cut before left turn after
-          → TurnBy heading absent ks k buffer rest before used turn buffer' after
-      turn_taken (Whole start now) (l, next) turn r =
+      pub turn_taken : (cut : Cut) → NextBy buffer rest cut buffer' → (r : Result Turn Failed) → CutSaid heading absent ks k buffer' cut before left r after
+          → TurnBy heading absent ks k buffer rest before used r buffer' after
+      turn_taken (Whole start now) (l, next) r said =
           let text = record_text heading absent ks k (unread buffer' start now.at) in
-          rw r.turn_is (goes text now (text_of text now (λ bytes e. ap (record_text heading absent ks k) (sym e)) next) r.pending r.said)
-      turn_taken (TooLong now) next turn r =
-          let text = record_text heading absent ks k [] in
-          rw r.turn_is (goes text now (text_of text now long_text next) r.pending r.said)
-      turn_taken Ended (more, may, e) turn r = rw r.0 (stops (refl, (more, may, ended e)) r.1)
-      turn_taken Endless (more, may, e) turn r = rw r.0 (stops (refl, (more, may, endless e)) r.1)
+          goes text now (text_of text now (λ bytes e. ap (record_text heading absent ks k) (sym e)) next) r said
+      turn_taken (TooLong now) next r said = goes (record_text heading absent ks k []) now (text_of (record_text heading absent ks k []) now long_text next) r said
+      turn_taken Ended (more, may, e) r said = rw said.0 (stops (refl, (more, may, ended e)) said.1)
+      turn_taken Endless (more, may, e) r said = rw said.0 (stops (refl, (more, may, endless e)) said.1)

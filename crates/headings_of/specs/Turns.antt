@@ -1,9 +1,8 @@
 -- What comes of a turn, and of turn after turn: what is said, and with which bytes it goes on.
-use Rattle.std.specs.Prelude.{◌≡◌, List, [], ◌++◌, ℕ, ◌≤◌, length}
+use Rattle.std.specs.Prelude.{◌≡◌, List, [], ◌++◌, Option, Some, None, Result, Ok, Err, ℕ, ◌≤◌, length}
 use Rattle.marc.specs.Known.{Known}
 use Rattle.marc.specs.Stream.{no_more, next_in, records_in}
 use Rattle.marc.specs.Printed.{text_from, headings_text}
-use Rattle.marc.specs.ListFile.{ListFile, BadLine as IsBadLine}
 use Rattle.input.specs.Unreads.{unread}
 use Rattle.marc_input.specs.declared.rest.Rest.{Rest}
 use Rattle.marc_input.specs.declared.cutting.Cut.{Cut}
@@ -11,21 +10,11 @@ use Rattle.marc_input.specs.declared.cutting.Cut.TheVariants.{Whole, TooLong, En
 use Rattle.marc_input.specs.Rests.{Held, rest_in, MayFollow}
 use Rattle.marc_input.specs.Passing.{NoMark, uncounted}
 use Rattle.marc_input.specs.Cuts.{NextTo}
-use Rattle.output.specs.declared.pending.Pending.{Pending}
-use Rattle.output.specs.declared.pending.Pending.TheVariants.{Bytes, Failed as NotWritten}
+use Rattle.output.specs.declared.pending.Failed.{Failed}
 use Rattle.output.specs.Pendings.{Said}
 use Rattle.output.specs.Turns.{Answered, Unanswered, Spoken}
 use Rattle.headings_of.specs.declared.answering.Turn.{Turn}
-use Rattle.headings_of.specs.declared.answering.Turn.TheVariants.{Go, Stop, Failed}
-use Rattle.headings_of.specs.declared.Ending.{Ending}
-use Rattle.headings_of.specs.declared.Ending.TheVariants.{BadLine, Turns}
 use Rattle.headings_of.specs.Texts.{record_text}
-
--- What is still to be written lies in a buffer of so many bytes.
-abbrev pub Stands : ℕ → Turn → Type 0
-Stands room (Go rest standing) = Unit {0}
-Stands room (Stop standing) = standing ≤ room
-Stands room Failed = Unit {0}
 
 -- ---- what was cut off
 
@@ -36,19 +25,14 @@ CutIn room (TooLong rest) = Unit {0}
 CutIn room Ended = Unit {0}
 CutIn room Endless = Unit {0}
 
-abbrev pub go_on : Rest → Pending → Turn
-go_on rest (Bytes written standing) = Go rest standing
-go_on rest NotWritten = Failed
-
 -- A text is said, and it goes on with these bytes.
-pub record GoesOn (text : List ℕ) (rest : Rest) (before : List ℕ) (used : ℕ) (turn : Turn) (after : List ℕ) : Type 0 where
-  pub pending : Pending
-  pub said : Said before used text pending after
-  pub turn_is : turn ≡ go_on rest pending
+abbrev pub GoesOn : (text : List ℕ) → Rest → (before : List ℕ) → ℕ → Result Turn Failed → List ℕ → Type 0
+GoesOn text rest before used (Ok turn) after = (turn.rest ≡ Some rest) × (written : ℕ) × Said before used text (Ok (record { written = written; standing = turn.standing })) after
+GoesOn text rest before used (Err failed) after = Said before used text (Err failed) after
 
 -- Nothing is said, and nothing comes any more.
-abbrev pub StopsAt : (before : List ℕ) → ℕ → Turn → List ℕ → Type 0
-StopsAt before used turn after = (turn ≡ Stop used) × (after ≡ before)
+abbrev pub StopsAt : (before : List ℕ) → ℕ → Result Turn Failed → List ℕ → Type 0
+StopsAt before used r after = (r ≡ Ok (record { rest = None; standing = used })) × (after ≡ before)
 
 -- Where no mark stands in the bytes that are not used yet no whole record does, and it has to wait for more.
 abbrev pub Waits : List ℕ → Rest → Type 0
@@ -61,7 +45,7 @@ pub data Over (input : List ℕ) : Type 0 where
 
 module _ (heading absent : ℕ) (ks : List Known) where
   -- What is said of what was cut off, where it is record k. One that is too long is not there any more: it has the text of no bytes.
-  abbrev pub CutSaid : ℕ → (buffer : List ℕ) → Cut → (before : List ℕ) → ℕ → Turn → List ℕ → Type 0
+  abbrev pub CutSaid : ℕ → (buffer : List ℕ) → Cut → (before : List ℕ) → ℕ → Result Turn Failed → List ℕ → Type 0
   CutSaid k buffer (Whole start rest) = GoesOn (record_text heading absent ks k (unread buffer start rest.at)) rest
   CutSaid k buffer (TooLong rest) = GoesOn (record_text heading absent ks k []) rest
   CutSaid k buffer Ended = StopsAt
@@ -76,12 +60,15 @@ module _ (heading absent : ℕ) (ks : List Known) where
   abbrev pub NoText : (buffer : List ℕ) → Rest → List ℕ → Type 0
   NoText buffer rest text = (text ≡ []) × ((more : List ℕ) × MayFollow rest more × Over (rest_in buffer rest ++ more))
 
-  -- One turn: it goes on with the bytes behind the record, or the input is over. A write fails for want of room alone, but for that of what stood in
-  -- the buffer before it waits.
-  abbrev pub TurnBy : ℕ → (buffer : List ℕ) → Rest → (before : List ℕ) → ℕ → Turn → (buffer' after : List ℕ) → Type 0
-  TurnBy k buffer rest before used (Go now standing) buffer' after = Answered (λ text. text) (TextOf k buffer rest now buffer') (Waits buffer rest) before used standing after
-  TurnBy k buffer rest before used (Stop standing) buffer' after = Answered (λ text. text) (NoText buffer rest) (Waits buffer rest) before used standing after
-  TurnBy k buffer rest before used Failed buffer' after =
+  -- It goes on with the bytes behind the record, or the input is over.
+  abbrev pub TurnTo : ℕ → (buffer : List ℕ) → Rest → (before : List ℕ) → ℕ → Option Rest → (standing : ℕ) → (buffer' after : List ℕ) → Type 0
+  TurnTo k buffer rest before used (Some now) standing buffer' after = Answered (λ text. text) (TextOf k buffer rest now buffer') (Waits buffer rest) before used standing after
+  TurnTo k buffer rest before used None standing buffer' after = Answered (λ text. text) (NoText buffer rest) (Waits buffer rest) before used standing after
+
+  -- One turn. A write fails for want of room alone, but for that of what stood in the buffer before it waits.
+  abbrev pub TurnBy : ℕ → (buffer : List ℕ) → Rest → (before : List ℕ) → ℕ → Result Turn Failed → (buffer' after : List ℕ) → Type 0
+  TurnBy k buffer rest before used (Ok turn) buffer' after = TurnTo k buffer rest before used turn.rest turn.standing buffer' after
+  TurnBy k buffer rest before used (Err failed) buffer' after =
       (Waits buffer rest → used ≡ 0) → Unanswered (λ text. text) (λ text. (now : Rest) × TextOf k buffer rest now buffer' text) before used
 
   -- ---- turn after turn
@@ -96,20 +83,12 @@ module _ (heading absent : ℕ) (ks : List Known) where
     whole : text ≡ headings_text heading absent ks bytes → Finished bytes text
     uncountable : uncounted ≤ length bytes → Finished bytes text
 
-  -- After k records. What was to be written when a write failed stands nowhere any more.
-  abbrev pub TurnsBy : ℕ → (buffer before : List ℕ) → Turn → List ℕ → Type 0
-  TurnsBy k buffer before (Go rest standing) after = Held buffer rest × Spoken (SaidSo k buffer rest) before standing after
-  TurnsBy k buffer before (Stop standing) after = Spoken Finished before standing after
-  TurnsBy k buffer before Failed after = Unit {0}
+  -- After k records; or all of them, where the input is over.
+  abbrev pub SpokenTo : ℕ → (buffer before : List ℕ) → Option Rest → (standing : ℕ) → List ℕ → Type 0
+  SpokenTo k buffer before (Some rest) standing after = Held buffer rest × Spoken (SaidSo k buffer rest) before standing after
+  SpokenTo k buffer before None standing after = Spoken Finished before standing after
 
--- A file of another shape: its bad line, and nothing is said. A list's: its strings decide what is said of the input.
-pub record ListSays (file before : List ℕ) (turn : Turn) (buffer after : List ℕ) : Type 0 where
-  pub heading : ℕ
-  pub absent : ℕ
-  pub ks : List Known
-  pub is : ListFile file heading absent ks
-  pub turns : TurnsBy heading absent ks uncounted buffer before turn after
-
-abbrev pub EndingBy : (file before : List ℕ) → Ending → (buffer after : List ℕ) → Type 0
-EndingBy file before (BadLine line) buffer after = IsBadLine file line × (after ≡ before)
-EndingBy file before (Turns turn) buffer after = ListSays file before turn buffer after
+  -- What was to be written when a write failed stands nowhere any more.
+  abbrev pub TurnsBy : ℕ → (buffer before : List ℕ) → Result Turn Failed → List ℕ → Type 0
+  TurnsBy k buffer before (Ok turn) after = SpokenTo k buffer before turn.rest turn.standing after
+  TurnsBy k buffer before (Err failed) after = Unit {0}

@@ -1,36 +1,33 @@
 // The records of standard input, answered turn after turn.
-ghost use Rattle.std.specs.Prelude.{◌≡◌, ◌≤◌, ◌<◌, length};
-ghost use Rattle.marc.specs.Known.{known_in};
-ghost use Rattle.known_strings.specs.Checks.{CheckedAs};
+ghost use Rattle.std.specs.Prelude.{◌≡◌, ◌≤◌, ◌<◌, Some, length};
+ghost use Rattle.known_strings.specs.Lent.{listed};
 ghost use Rattle.lines.specs.Lines.{line_room};
 ghost use Rattle.marc_input.specs.Rests.{Held};
 ghost use Rattle.marc_input.specs.Passing.{uncounted};
 ghost use Rattle.marc_input.specs.Cuts.{most_bytes};
-ghost use Rattle.headings_of.specs.Turns.{CutIn, go_on, CutSaid, TurnBy, TurnsBy};
+ghost use Rattle.headings_of.specs.Turns.{CutIn, CutSaid, TurnBy, TurnsBy};
 
+use crate::list::TestedList;
 use crate::say::say_record;
-use exchange::Given;
 use marc_input::cutting::{Cut, next_record};
 use marc_input::passing::find_mark;
 use marc_input::rest::Rest;
-use output::pending::{Pending, must_write, settle};
+use output::pending::{Failed, Pending, must_write, settle};
 
+// What comes of a turn: the bytes that are not used yet, none where the input is over, and how many bytes of text are still to be written.
 #[derive(Clone, Copy)]
-pub enum Turn {
-    // the bytes that are not used yet, and how many are still to be written
-    Go(Rest, usize),
-    // the input is over, and so many bytes are still to be written
-    Stop(usize),
-    // a write has failed
-    Failed,
+pub struct Turn {
+    pub rest: Option<Rest>,
+    pub standing: usize,
 }
 
-fn go(rest: Rest, pending: Pending) -> Turn
-    ensures { result ≡ go_on rest pending }
+// It goes on with the bytes behind a record.
+fn go_on(rest: Rest, said: Pending) -> Turn
+    ensures { (result.rest ≡ Some rest) × (result.standing ≡ said.standing) }
 {
-    match pending {
-        Pending::Bytes(_, standing) => Turn::Go(rest, standing),
-        Pending::Failed => Turn::Failed,
+    Turn {
+        rest: Some(rest),
+        standing: said.standing,
     }
 }
 
@@ -40,35 +37,26 @@ fn answer_next(
     k: u64,
     cut: Cut,
     buffer: &[u8],
-    text: &[u8],
-    ends: &[u32],
-    numbers: &[u16],
-    given: Given,
+    list: TestedList,
     out: &mut [u8],
     used: usize,
-) -> Turn
-    requires checked_as { CheckedAs text.now ends.now numbers.now given.absent given.checked }
-    requires cut_in { CutIn (length buffer.now) cut × (used ≤ length out.old) × (line_room ≤ length out.old) }
-    ensures { CutSaid given.heading given.absent (known_in text.now ends.now numbers.now) k buffer.now cut out.old used result out.new }
+) -> Result<Turn, Failed>
+    requires { CutIn (length buffer.now) cut × (used ≤ length out.old) × (line_room ≤ length out.old) }
+    ensures { CutSaid list.entry.heading list.entry.absent (listed list.entry.known) k buffer.now cut out.old used result out.new }
 {
     match cut {
         Cut::Whole(start, rest) => {
-            let end = rest.at;
-            let bytes = &buffer[start..end];
-            go(
-                rest,
-                say_record(rt, k, bytes, text, ends, numbers, given, out, used),
-            )
+            let said = say_record(rt, k, &buffer[start..rest.at], list, out, used)?;
+            Ok(go_on(rest, said))
         }
         Cut::TooLong(rest) => {
-            let none = &buffer[..0];
-            go(
-                rest,
-                say_record(rt, k, none, text, ends, numbers, given, out, used),
-            )
+            let said = say_record(rt, k, &buffer[..0], list, out, used)?;
+            Ok(go_on(rest, said))
         }
-        Cut::Ended => Turn::Stop(used),
-        Cut::Endless => Turn::Stop(used),
+        Cut::Ended | Cut::Endless => Ok(Turn {
+            rest: None,
+            standing: used,
+        }),
     }
 }
 
@@ -78,61 +66,42 @@ fn take_turn(
     k: u64,
     buffer: &mut [u8],
     rest: Rest,
-    text: &[u8],
-    ends: &[u32],
-    numbers: &[u16],
-    given: Given,
+    list: TestedList,
     out: &mut [u8],
     used: usize,
-) -> Turn
-    requires checked_as { CheckedAs text.now ends.now numbers.now given.absent given.checked }
-    requires held { Held buffer.old rest × (most_bytes < length buffer.old) × (used ≤ length out.old) × (line_room ≤ length out.old) }
-    ensures { TurnBy given.heading given.absent (known_in text.now ends.now numbers.now) k buffer.old rest out.old used result buffer.new out.new }
+) -> Result<Turn, Failed>
+    requires { Held buffer.old rest × (most_bytes < length buffer.old) × (used ≤ length out.old) × (line_room ≤ length out.old) }
+    ensures { TurnBy list.entry.heading list.entry.absent (listed list.entry.known) k buffer.old rest out.old used result buffer.new out.new }
 {
-    let mark = find_mark(buffer, rest.at, rest.end);
-    match settle(rt, out, used, must_write(mark, rest.end, used)) {
-        Pending::Bytes(_, left) => {
-            let cut = next_record(rt, buffer, rest);
-            answer_next(rt, k, cut, buffer, text, ends, numbers, given, out, left)
-        }
-        Pending::Failed => Turn::Failed,
-    }
+    let mark = find_mark(buffer, rest.at, rest.end).unwrap_or(rest.end);
+    let left = settle(rt, out, used, must_write(mark, rest.end, used))?;
+    let cut = next_record(rt, buffer, rest);
+    answer_next(rt, k, cut, buffer, list, out, left.standing)
 }
 
 // Turn after turn, until the input is over.
 pub fn answer_all(
     rt: HostRuntime,
     buffer: &mut [u8],
-    text: &[u8],
-    ends: &[u32],
-    numbers: &[u16],
-    given: Given,
+    list: TestedList,
     out: &mut [u8],
-) -> Turn
-    requires checked_as { CheckedAs text.now ends.now numbers.now given.absent given.checked }
-    requires most_bytes_in_bounds { (most_bytes < length buffer.old) × (line_room ≤ length out.old) }
-    ensures { TurnsBy given.heading given.absent (known_in text.now ends.now numbers.now) uncounted buffer.new out.old result out.new }
+) -> Result<Turn, Failed>
+    requires { (most_bytes < length buffer.old) × (line_room ≤ length out.old) }
+    ensures { TurnsBy list.entry.heading list.entry.absent (listed list.entry.known) uncounted buffer.new out.old result out.new }
 {
-    let mut turn = Turn::Go(
-        Rest {
+    let mut turn = Turn {
+        rest: Some(Rest {
             at: 0,
             end: 0,
             over: false,
-        },
-        0,
-    );
+        }),
+        standing: 0,
+    };
     for k in 0..u64::MAX {
-        match turn {
-            Turn::Go(rest, used) => {
-                turn = take_turn(rt, k, buffer, rest, text, ends, numbers, given, out, used);
-            }
-            Turn::Stop(_) => {
-                return turn;
-            }
-            Turn::Failed => {
-                return turn;
-            }
-        }
+        let Some(rest) = turn.rest else {
+            return Ok(turn);
+        };
+        turn = take_turn(rt, k, buffer, rest, list, out, turn.standing)?;
     }
-    turn
+    Ok(turn)
 }

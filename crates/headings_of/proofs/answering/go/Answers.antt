@@ -1,5 +1,0 @@
--- By the two cases of what is still to be written.
-use Rattle.headings_of.proofs.answering.go.Goals as goal
-
-pub returns-in-Bytes : goal.returns-in-Bytes
-returns-in-Bytes c = rw c.in-Bytes.is
