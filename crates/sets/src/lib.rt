@@ -47,13 +47,15 @@ impl SymbolSet {
         SymbolSet { words }
     }
 
-    // The set whose words a list has from index `at` on.
+    // The set whose words a list has from index `at` on, read one by one: the library's copy tests for overlap, which takes as long as eight words.
     pub fn read(list: &[u64], at: usize) -> SymbolSet
         requires { at + set_words_lem ≤ length list.now }
         ensures { (w : ℕ) → w < set_words_lem → get_or result.words w 0 ≡ get_or list.now (at + w) 0 }
     {
         let mut words = [0u64; SymbolSet::WORDS];
-        words.copy_from_slice(&list[at..at + SymbolSet::WORDS]);
+        for j in 0..SymbolSet::WORDS {
+            words[j] = list[at + j];
+        }
         SymbolSet { words }
     }
 
@@ -62,7 +64,10 @@ impl SymbolSet {
         requires { at + set_words_lem ≤ length list.old }
         ensures { list.new ≡ over list.old at self.words }
     {
-        list[at..at + SymbolSet::WORDS].copy_from_slice(&self.words);
+        let words = self.words;
+        for w in 0..SymbolSet::WORDS {
+            list[at + w] = words[w];
+        }
     }
 
     // The symbols of the set that are below `end`, rising. The words are lent, so that a loop over the symbols copies none.
