@@ -1,4 +1,4 @@
-// The batch: each question stands behind its length, four bytes with the low byte behind.
+// The batch: each question stands behind its length, four bytes with the low byte first.
 ghost use Rattle.std.specs.Prelude.{◌≡◌, ◌+◌, ◌≤◌, ◌<◌, length};
 ghost use Rattle.input.specs.Coming.{length_in, Follows, Comes};
 ghost use Rattle.input.specs.Found.{FoundBy};

@@ -3,7 +3,7 @@
 use mathlib.Core.Path.{◌≡◌, refl, sym as inv, ap, ◌∙◌, subst}
 use mathlib.Core.Logic.{inl, inr}
 use mathlib.Core.List.{List}
-use mathlib.Core.Bool.{Bool, true, false, ◌&&◌, ◌||◌, cond, or_comm, false≢true}
+use mathlib.Core.Bool.{or-false, Bool, true, false, ◌&&◌, ◌||◌, cond, or_comm, false≢true}
 use Prim.Native.Nat.{ℕ, ◌+◌, ◌-◌, ◌≤◌, ◌<◌, min, max}
 use native.Mathlib.Decide.{ℕ_discrete}
 use native.Mathlib.Numerals.{add-one}
@@ -21,7 +21,7 @@ use Rattle.meaning.specs.Tables.{pair_start, lower_at, higher_at, degree_at}
 use Rattle.meaning.proofs.Bytes.{pair_in_lem}
 use Rattle.meaning.proofs.Sound.{sound}
 use Rattle.table.proofs.Reading.{sound_at}
-use Rattle.near.specs.Near.{in_row, kept, is_near, NearSet, PairJoined}
+use Rattle.near.specs.Near.{in_row, kept, is_near, NearSet, Alone, PairJoined}
 use Rattle.near.specs.OnePass.{brings, walked}
 use Rattle.near.proofs.OnePass.{pair_degree, apart, one_pass}
 
@@ -42,6 +42,16 @@ module _ (file : List ℕ) (cut : ℕ) where
     pub gathered : 1 < kept near h
     pub within : kept near h ≤ 1002
     pub low : 1002 - kept near h ≡ lowest n (brought h)
+
+  -- LAW: no pair yet
+  pub near_none : (near : List ℕ) (h : ℕ) → Alone near h → NearTo 0 near h
+  near_none near h a =
+      record {
+        has = λ k l. a.has k l ∙ inv (or-false (eqb k h));
+        gathered = omega (arith, a.top);
+        within = omega (arith, a.top);
+        low = omega (arith, a.top);
+      }
 
   -- LAW: one pair more
   pub near_next : (n lower higher degree : ℕ) (before after : List ℕ) → pair lower higher degree ≡ pair_at file (pair_start file n) → degree_at file n ≤ 1000
