@@ -2,3 +2,4 @@
 pub mod Passing
 pub mod Gathering
 pub mod Faced
+pub mod Numbers

@@ -1,3 +1,4 @@
 -- Names that contracts use.
 pub mod Faced
 pub mod Gathering
+pub mod Notes

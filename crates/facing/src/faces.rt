@@ -1,13 +1,14 @@
 // What faces the pattern's nodes in the heading.
-ghost use Rattle.std.specs.Prelude.{◌≡◌, true, ◌+◌, ◌*◌, ◌-◌, ◌<◌, ◌≤◌, length};
+ghost use Rattle.std.specs.Prelude.{◌≡◌, true, ◌-◌, ◌<◌, ◌≤◌, length};
 ghost use Rattle.theory.specs.Read.{walk, ends};
 ghost use Rattle.theory.specs.Stands.{put_note_lem};
 ghost use Rattle.meaning.specs.File.{table_in};
 ghost use Rattle.degrees.specs.Rows.{Rows, RowsLaid};
 ghost use Rattle.terms.specs.Ends.{EndsIn};
 ghost use Rattle.facing.specs.Faced.{FacedBy};
+ghost use Rattle.facing.specs.Notes.{numbers_of};
 
-use crate::notes::{Note, put_note};
+use crate::notes::Note;
 use degrees::rows::{degree_in_row, lay_where_worth};
 use terms::asked::Asked;
 use terms::kind::{Kind, kind_of};
@@ -17,25 +18,25 @@ use terms::walk::end_from;
 const EARLY: usize = 8;
 
 // Notes the subterm of the heading that begins at this index, as what faces node i of the pattern; answers where it ends.
-fn note_subterm(asked: Asked, at: usize, notes: &mut [u16], i: usize) -> usize
+fn note_subterm(asked: Asked, at: usize, notes: &mut [Note], i: usize) -> usize
     requires stands { EndsIn (table_in asked.table.file.now) true asked.heading.now at }
-    requires room { 2 * i + 1 < length notes.old }
+    requires room { i < length notes.old }
     ensures at_value { walk (table_in asked.entry.table.file.now) true asked.entry.heading.now 64 at ≡ ends result }
-    ensures notes_after { notes.new ≡ put_note_lem notes.old i at (result - at) }
+    ensures notes_after { numbers_of notes.new ≡ put_note_lem (numbers_of notes.old) i at (result - at) }
 {
     let end = end_from(asked.table, asked.heading, at);
     let start = at as u16;
     let size = (end - at) as u16;
-    put_note(notes, i, Note { start, size });
+    notes[i] = Note { start, size };
     end
 }
 
 // Goes along the pattern and the heading together, and notes where the subterm that faces each variable's node stands. Where no symbol clashes it gives
 // the least degree of one with the one that faces it; else the pattern's node at which one is not near enough.
-pub fn face(asked: Asked, rows: &mut [u16], notes: &mut [u16]) -> Result<u16, usize>
+pub fn face(asked: Asked, rows: &mut [u16], notes: &mut [Note]) -> Result<u16, usize>
     requires rows { Rows asked.table.file.now rows.old }
-    requires room { 2 * length asked.pattern.now ≤ length notes.old }
-    ensures faced_by { FacedBy asked.entry.table.file.now asked.entry.cut asked.entry.pattern.now asked.entry.heading.now result notes.new }
+    requires room { length asked.pattern.now ≤ length notes.old }
+    ensures faced_by { FacedBy asked.entry.table.file.now asked.entry.cut asked.entry.pattern.now asked.entry.heading.now result (numbers_of notes.new) }
     ensures rows_laid { RowsLaid asked.entry.table.file.now rows.old rows.new }
 {
     let table = asked.table;

@@ -14,6 +14,7 @@ use Rattle.terms.specs.Kinds.{kind_of}
 use Rattle.terms.specs.declared.kind.Kind.{Kind}
 use Rattle.terms.specs.declared.kind.Kind.TheVariants.{Symbol, Variable}
 use Rattle.terms.proofs.Nodes.{symbol_kind, variable_kind}
+use Rattle.facing.proofs.Numbers.{length-numbers}
 use Rattle.facing.proofs.Passing.{readable_asked, passing_start, passing_symbol, passing_clash, symbol_faces, variable_faces, passing_variable, passing_kinds, passing_end}
 use Rattle.facing.proofs.faces.face.Goals as goal
 use Rattle.facing.proofs.faces.face.Goals.{then-i-eq-EARLY, else-i-eq-EARLY, in-Symbol+else-degree-asked, in-Variable, in-Neither}
@@ -83,7 +84,7 @@ loop-i-preserved c =
           (omega arith, notes, rows, rw (w.notes-is, w.least-is, w.at-is, w.min-least.ensures, met) s)
       | in-Variable w ↦
           let is = is_variable a.table _ _ c.kind_of.ensures _ w.in-Variable.is in
-          let s = passing_variable r _ kept.3 (omega arith) is _ w.note_subterm-at.ensures.at_value (omega arith) in
+          let s = passing_variable r _ kept.3 (omega arith) is _ w.note_subterm-at.ensures.at_value (omega (arith, length-numbers c.loop-i.notes)) in
           (omega arith, notes, rows, rw (w.notes-is, w.note_subterm-at.ensures.notes_after, w.least-is, w.at-is) s)
       | in-Neither w ↦ absurd (passing_kinds r _ kept.3 (omega arith) (kind_is a.table _ _ c.kind_of.ensures ∙ w.in-Neither.is))
     ]
