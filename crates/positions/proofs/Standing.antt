@@ -13,13 +13,16 @@ use Rattle.theory.specs.Tree.{Term, node, ∅}
 use Rattle.theory.specs.Table.{Table, Lawful}
 use Rattle.theory.specs.Least.{All, lowest, highest}
 use Rattle.theory.specs.Match.{at, shared, in_set, lowest_at_lem, highest_at}
-use Rattle.theory.specs.Stands.{StandsAt, start_of, size_of, Gathered}
+use Rattle.theory.specs.Stands.{StandsAt, Gathered}
 use Rattle.theory.proofs.Lemmas.{least_top, all_of_least, least_of_all, all_get_d, lowest_le, lowest_top, le_lowest}
 use Rattle.theory.proofs.Gathered.{at_node, at_past}
 use Rattle.meaning.specs.Limits.{set_words_lem, set_room}
 use Rattle.meaning.specs.Buffers.{member}
 use Rattle.sets.specs.Words.{one_bit}
 use Rattle.sets.proofs.Laws.{member_one}
+use Rattle.facing.specs.Notes.{note_at, numbers_of}
+use Rattle.facing.specs.declared.notes.Note.{Note}
+use Rattle.facing.proofs.Numbers.{gathered_each}
 use Rattle.wide.specs.Shared.{shared_by_lem}
 use Rattle.positions.specs.Position.{NearOf, StandAt, EndsBefore, in_shared, lowest_shared, highest_shared}
 use Rattle.positions.proofs.Members.{lowest-same, highest-same}
@@ -45,7 +48,7 @@ no_degree {T} L s = go (T.deg s T.size) refl
 
 -- ---- which symbols stand there, one subterm after the other
 
-module _ (heading notes : List ℕ) (k : ℕ) where
+module _ (heading : List ℕ) (notes : List Note) (k : ℕ) where
   pub stand_none : (symbols : List ℕ) → ((h : ℕ) → member symbols h ≡ false) → StandAt heading notes k 0 symbols
   stand_none symbols none =
       record {
@@ -58,13 +61,13 @@ module _ (heading notes : List ℕ) (k : ℕ) where
       cc_false z = let y : ◌≡◌ {A = ℕ} 0 1 = cc in omega arith
 
   -- LAW: one symbol, the first subterm's, stands in all of them
-  pub stand_alone : (n first : ℕ) {symbols : List ℕ} → 0 < n → first < set_room → first ≡ get_or heading (start_of notes 0 + k) 0
-      → ((o : ℕ) → o < n → get_or heading (start_of notes o + k) 0 ≡ first) → StandAt heading notes k n symbols
+  pub stand_alone : (n first : ℕ) {symbols : List ℕ} → 0 < n → first < set_room → first ≡ get_or heading ((note_at notes 0).start + k) 0
+      → ((o : ℕ) → o < n → get_or heading ((note_at notes o).start + k) 0 ≡ first) → StandAt heading notes k n symbols
       → StandAt heading notes k n (one_bit set_words_lem first)
   stand_alone n first some small is same s =
       record {
         reach = s.reach;
-        each = λ o l. member_one set_words_lem first small (get_or heading (start_of notes o + k) 0) ∙ eq-eqb _ _ (same o l);
+        each = λ o l. member_one set_words_lem first small (get_or heading ((note_at notes o).start + k) 0) ∙ eq-eqb _ _ (same o l);
         only = λ h e. (0, some, inv (eqb-true h first (inv (member_one set_words_lem first small h) ∙ e) ∙ is));
       }
 
@@ -74,13 +77,13 @@ all_at : {A : Type 0} (P : A → Type 0) (z : A) (xs : List A) → ((o : ℕ) �
 all_at P z [] h = tt
 all_at P z (x ∷ xs) h = (h 0 (omega arith), all_at P z xs (λ o l. h (suc o) (omega arith)))
 
-module _ {T : Table} {cut : ℕ} {near heading : List ℕ} (known : NearOf T cut near heading) {notes : List ℕ} {n : ℕ} {ts : List Term} (g : Gathered heading notes n ts) (k : ℕ) where
+module _ {T : Table} {cut : ℕ} {near heading : List ℕ} (known : NearOf T cut near heading) (notes : List Note) {n : ℕ} {ts : List Term} (g : Gathered heading (numbers_of notes) n ts) (k : ℕ) where
   module _ {faced : List ℕ} (stand : StandAt heading notes k n faced) where
-    here : (o : ℕ) → o < n → at T (get_or ts o (node 0 ∅)) k ≡ get_or heading (start_of notes o + k) 0
-    here o l = at_inside T heading (start_of notes o) (size_of notes o) k (get_or ts o (node 0 ∅)) (g.each o l) (stand.reach o l)
+    here : (o : ℕ) → o < n → at T (get_or ts o (node 0 ∅)) k ≡ get_or heading ((note_at notes o).start + k) 0
+    here o l = at_inside T heading (note_at notes o).start (note_at notes o).size k (get_or ts o (node 0 ∅)) (gathered_each notes g o l) (stand.reach o l)
 
-    symbol : (o : ℕ) → o < n → get_or heading (start_of notes o + k) 0 < T.size
-    symbol o l = known.symbols (start_of notes o + k) (omega (arith, stand.reach o l, (g.each o l).inside))
+    symbol : (o : ℕ) → o < n → get_or heading ((note_at notes o).start + k) 0 < T.size
+    symbol o l = known.symbols ((note_at notes o).start + k) (omega (arith, stand.reach o l, (gathered_each notes g o l).inside))
 
     -- LAW: what stands there is a symbol
     pub stand_symbols : (h : ℕ) → member faced h ≡ true → h < T.size
@@ -93,7 +96,7 @@ module _ {T : Table} {cut : ℕ} {near heading : List ℕ} (known : NearOf T cut
         f : Term → ℕ
         f t = T.deg s (at T t k)
 
-        with_one : (o : ℕ) → o < n → shared T ts k s ≤ T.deg s (get_or heading (start_of notes o + k) 0)
+        with_one : (o : ℕ) → o < n → shared T ts k s ≤ T.deg s (get_or heading ((note_at notes o).start + k) 0)
         with_one o l =
             let each = all_get_d (λ t. shared T ts k s ≤ f t) ts o (node 0 ∅) (omega (arith, g.count)) (all_of_least f (shared T ts k s) ts (omega arith)) in
             omega (arith, each, ap (T.deg s) (here o l))
@@ -111,7 +114,7 @@ module _ {T : Table} {cut : ℕ} {near heading : List ℕ} (known : NearOf T cut
             each : (o : ℕ) → o < length ts → shared_by_lem T faced s ≤ f (get_or ts o (node 0 ∅))
             each o l =
                 let m : o < n = omega (arith, g.count) in
-                let h = get_or heading (start_of notes o + k) 0 in
+                let h = get_or heading ((note_at notes o).start + k) 0 in
                 let least = rw (stand.each o m) at (lowest_le T.size (λ h. cond (member faced h) (T.deg s h) 1000) h (symbol o m)) in
                 omega (arith, least, ap (T.deg s) (here o m))
 
@@ -132,7 +135,7 @@ module _ {T : Table} {cut : ℕ} {near heading : List ℕ} (known : NearOf T cut
         let l = short.1 in
         let f : Term → ℕ = λ t. T.deg s (at T t k) in
         let each = all_get_d (λ t. shared T ts k s ≤ f t) ts o (node 0 ∅) (omega (arith, g.count)) (all_of_least f (shared T ts k s) ts (omega arith)) in
-        let past = at-outside T heading (start_of notes o) (size_of notes o) k (get_or ts o (node 0 ∅)) (g.each o l) short.2 in
+        let past = at-outside T heading (note_at notes o).start (note_at notes o).size k (get_or ts o (node 0 ∅)) (gathered_each notes g o l) short.2 in
         omega (arith, each, ap (T.deg s) past, no_degree known.lawful s)
 
     -- LAW: where a subterm ends before, no symbol is in the set

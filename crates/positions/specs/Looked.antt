@@ -1,12 +1,13 @@
 -- What the functions on one position come to.
-use Rattle.std.specs.Prelude.{◌≡◌, ⊤, List, Option, MatchOption, IfSome, ℕ, ◌+◌, ◌≤◌, ◌<◌, min, get_or}
+use Rattle.std.specs.Prelude.{◌≡◌, ⊤, List, Option, MatchOption, IfSome, ℕ, ◌+◌, ◌≤◌, ◌<◌, min, length, get_or}
 use Rattle.theory.specs.Table.{Table, Lawful}
-use Rattle.theory.specs.Stands.{start_of}
 use Rattle.meaning.specs.Limits.{set_words_lem}
 use Rattle.refusal.specs.declared.Degrees.{Degrees}
 use Rattle.sets.specs.Words.{one_bit}
+use Rattle.facing.specs.Notes.{note_at}
+use Rattle.facing.specs.declared.notes.Note.{Note}
 use Rattle.wide.specs.Shared.{shared_by_lem, lowest_from, highest_from}
-use Rattle.positions.specs.Position.{note_count, StandAt, EndsBefore, SharedIs, Rated}
+use Rattle.positions.specs.Position.{StandAt, EndsBefore, SharedIs, Rated}
 use Rattle.positions.specs.declared.faced.Faced.{Faced}
 use Rattle.positions.specs.declared.faced.Faced.TheVariants.{Alone, Several}
 
@@ -21,9 +22,9 @@ AloneIs first (Alone symbol) = symbol ≡ first
 AloneIs first (Several set) = ⊤
 
 -- what stands at position k of all subterms, if all have a symbol there
-pub record LookedAt (heading notes : List ℕ) (k : ℕ) (r : Option Faced) : Type 0 where
-  pub stand : MatchOption r (EndsBefore notes k (note_count notes)) (λ faced. StandAt heading notes k (note_count notes) (words_of faced))
-  pub alone_is : IfSome r (AloneIs (get_or heading (start_of notes 0 + k) 0))
+pub record LookedAt (heading : List ℕ) (notes : List Note) (k : ℕ) (r : Option Faced) : Type 0 where
+  pub stand : MatchOption r (EndsBefore notes k (length notes)) (λ faced. StandAt heading notes k (length notes) (words_of faced))
+  pub alone_is : IfSome r (AloneIs (get_or heading ((note_at notes 0).start + k) 0))
 
 -- a symbol that stands there alone is one of so many
 abbrev pub IsBelow : ℕ → Faced → Type 0

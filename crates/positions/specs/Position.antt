@@ -1,21 +1,18 @@
 -- What stands at one position of the subterms that face a variable, which are noted by where each begins in the heading and how many nodes it
 -- has, and what may stand there for the variable.
-use Rattle.std.specs.Prelude.{◌≡◌, List, Bool, true, ◌&&◌, cond, ℕ, ◌+◌, ◌/◌, ◌≤◌, ◌<◌, min, ltb, leb, length, get_or}
+use Rattle.std.specs.Prelude.{◌≡◌, List, Bool, true, ◌&&◌, cond, ℕ, ◌+◌, ◌≤◌, ◌<◌, min, ltb, leb, length, get_or}
 use Rattle.theory.specs.Table.{Table, Lawful}
 use Rattle.theory.specs.Least.{lowest, highest}
-use Rattle.theory.specs.Stands.{start_of, size_of}
 use Rattle.meaning.specs.Limits.{set_room}
 use Rattle.meaning.specs.Buffers.{member}
 use Rattle.near.specs.Near.{Kept, is_near, NearSet, NearSets}
+use Rattle.facing.specs.Notes.{note_at}
+use Rattle.facing.specs.declared.notes.Note.{Note}
 use Rattle.wide.specs.Shared.{shared_by_lem}
 
--- how many notes a list has
-abbrev pub note_count : List ℕ → ℕ
-note_count notes = length notes / 2
-
 -- each noted subterm stays inside the heading
-abbrev pub Within : List ℕ → List ℕ → Type 0
-Within heading notes = (o : ℕ) → o < note_count notes → start_of notes o + size_of notes o ≤ length heading
+abbrev pub Within : List ℕ → List Note → Type 0
+Within heading notes = (o : ℕ) → o < length notes → (note_at notes o).start + (note_at notes o).size ≤ length heading
 
 -- there is a near set for each symbol of the heading
 abbrev pub Covers : List ℕ → List ℕ → Type 0
@@ -47,14 +44,14 @@ pub record KeptOf (near : List ℕ) (symbols : ℕ) (faced : List ℕ) : Type 0 
 -- ---- which symbols stand there
 
 -- The first n subterms have a symbol at position k, and these are the symbols, each once.
-pub record StandAt (heading notes : List ℕ) (k n : ℕ) (symbols : List ℕ) : Type 0 where
-  pub reach : (o : ℕ) → o < n → k < size_of notes o
-  pub each : (o : ℕ) → o < n → member symbols (get_or heading (start_of notes o + k) 0) ≡ true
-  pub only : (h : ℕ) → member symbols h ≡ true → (o : ℕ) × (o < n) × (get_or heading (start_of notes o + k) 0 ≡ h)
+pub record StandAt (heading : List ℕ) (notes : List Note) (k n : ℕ) (symbols : List ℕ) : Type 0 where
+  pub reach : (o : ℕ) → o < n → k < (note_at notes o).size
+  pub each : (o : ℕ) → o < n → member symbols (get_or heading ((note_at notes o).start + k) 0) ≡ true
+  pub only : (h : ℕ) → member symbols h ≡ true → (o : ℕ) × (o < n) × (get_or heading ((note_at notes o).start + k) 0 ≡ h)
 
 -- One of the first n subterms has no position k.
-abbrev pub EndsBefore : List ℕ → ℕ → ℕ → Type 0
-EndsBefore notes k n = (o : ℕ) × (o < n) × (size_of notes o ≤ k)
+abbrev pub EndsBefore : List Note → ℕ → ℕ → Type 0
+EndsBefore notes k n = (o : ℕ) × (o < n) × ((note_at notes o).size ≤ k)
 
 -- ---- which may stand there for the variable, and at which degrees
 

@@ -1,11 +1,11 @@
 // The symbols that stand at a position of the subterms that face a variable.
 ghost use Rattle.std.specs.Prelude.{ℕ, ◌<◌, length, get_or};
-ghost use Rattle.theory.specs.Stands.{size_of};
 ghost use Rattle.meaning.specs.Limits.{set_room};
-ghost use Rattle.positions.specs.Position.{note_count, Within};
+ghost use Rattle.facing.specs.Notes.{note_at};
+ghost use Rattle.positions.specs.Position.{Within};
 ghost use Rattle.positions.specs.Looked.{LookedAt};
 
-use facing::notes::note_at;
+use facing::notes::Note;
 use sets::{SymbolSet, insert};
 
 #[derive(Clone, Copy)]
@@ -17,16 +17,15 @@ pub enum Faced {
 }
 
 // What stands at position k, which the first of the subterms has; none where a subterm ends before it.
-pub fn faced_at(heading: &[u16], notes: &[u16], k: usize) -> Option<Faced>
+pub fn faced_at(heading: &[u16], notes: &[Note], k: usize) -> Option<Faced>
     requires within { Within heading.now notes.now × ((i : ℕ) → i < length heading.now → get_or heading.now i 0 < set_room) }
-    requires notes_nonzero { (0 < note_count notes.now) × (k < size_of notes.now 0) }
+    requires notes_nonzero { (0 < length notes.now) × (k < (note_at notes.now 0).size) }
     ensures { LookedAt heading.now notes.now k result }
 {
-    let first = heading[note_at(notes, 0).start as usize + k];
+    let first = heading[notes[0].start as usize + k];
     let mut alone = true;
     let mut words = [0u64; SymbolSet::WORDS];
-    for o in 0..notes.len() / 2 {
-        let note = note_at(notes, o);
+    for note in notes {
         if k >= note.size as usize {
             return None;
         }
