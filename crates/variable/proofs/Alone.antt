@@ -1,6 +1,6 @@
 -- A variable that one term faces: at each position its set is the near set of the symbol there, so that the lowest degree is the one kept with that
 -- set, and the highest is 1000, that of the symbol with itself.
-use mathlib.Core.Path.{◌≡◌, refl, sym as inv, ap, ap₂, ◌∙◌}
+use mathlib.Core.Path.{◌≡◌, refl, sym as inv, ap, ◌∙◌}
 use mathlib.Core.List.{List, [], ◌∷◌}
 use mathlib.Core.Bool.{true, ◌&&◌, cond}
 use Prim.Native.Nat.{ℕ, ◌+◌, ◌-◌, ◌≤◌, ◌<◌}
@@ -13,12 +13,15 @@ use lib.Seq.{take_all, get_or-take, get_or-drop}
 use Rattle.theory.specs.Tree.{Term, enc}
 use Rattle.theory.specs.Table.{Table}
 use Rattle.theory.specs.Match.{size as sizeIn, at, shared, in_set, lowest_at_lem, highest_at}
-use Rattle.theory.specs.Stands.{StandsAt, start_of, size_of, Gathered}
+use Rattle.theory.specs.Stands.{StandsAt, Gathered}
 use Rattle.theory.proofs.Gathered.{at_node}
 use Rattle.theory.proofs.Lemmas.{le_highest, and_true}
 use Rattle.meaning.proofs.Rated.{highest_at_top}
 use Rattle.near.specs.Near.{kept, is_near}
-use Rattle.positions.specs.Position.{note_count, Within, Covers, NearOf}
+use Rattle.facing.specs.Notes.{note_at, numbers_of}
+use Rattle.facing.specs.declared.notes.Note.{Note}
+use Rattle.facing.proofs.Numbers.{gathered_each}
+use Rattle.positions.specs.Position.{Within, Covers, NearOf}
 use Rattle.positions.proofs.Members.{lowest-same}
 use Rattle.variable.specs.Variable.{PackedAlone, VariablePacked}
 use Rattle.variable.specs.declared.Found.{Found}
@@ -53,11 +56,11 @@ module _ (heading : List ℕ) (start size : ℕ) (inside : start + size ≤ leng
       }
 
 -- LAW: one note is of one term
-pub one_term : {heading notes : List ℕ} {n : ℕ} (ts : List Term) → Gathered heading notes n ts → n ≡ 1
-    → (t : Term) × (ts ≡ t ∷ []) × StandsAt heading (start_of notes 0) (size_of notes 0) t
-one_term [] g e = absurd (omega (arith, g.count))
-one_term (t ∷ []) g e = (t, refl, g.each 0 (omega arith))
-one_term (t ∷ u ∷ ts) g e = absurd (omega (arith, g.count))
+pub one_term : (notes : List Note) {heading : List ℕ} {n : ℕ} (ts : List Term) → Gathered heading (numbers_of notes) n ts → n ≡ 1
+    → (t : Term) × (ts ≡ t ∷ []) × StandsAt heading (note_at notes 0).start (note_at notes 0).size t
+one_term notes [] g e = absurd (omega (arith, g.count))
+one_term notes (t ∷ []) g e = (t, refl, gathered_each notes g 0 (omega arith))
+one_term notes (t ∷ u ∷ ts) g e = absurd (omega (arith, g.count))
 
 -- ---- its positions
 
@@ -95,12 +98,17 @@ module _ {T : Table} {cut : ℕ} {near nodes : List ℕ} (known : NearOf T cut n
       omega (arith, le_highest T.size f symbol (known.symbols k l), highest_at_top T cut (t ∷ []) k)
 
 -- LAW: so a variable with one note is packed by the part of the heading that the note tells of
-pub one_packed : (T : Table) (near heading notes : List ℕ) (start size : ℕ) (before after : List ℕ) (r : Found) → (start ≡ start_of notes 0) × (size ≡ size_of notes 0)
-    → Within heading notes → note_count notes ≡ 1 → PackedAlone near (take (start + size - start) (drop start heading)) before after r
-    → VariablePacked T near heading notes before after r
-one_packed T near heading notes start size before after r note within only alone ts g cut known =
-    let one = one_term ts g only in
-    let size_is : start + size - start ≡ size_of notes 0 = omega (arith, note) in
-    let inside : start + (start + size - start) ≤ length heading = omega (arith, within 0 (omega arith), note) in
-    let writes = ap₂ (λ (n s : ℕ). take n (drop s heading)) size_is note.0 ∙ one.2.is in
-    rw one.1 (alone T one.0 writes cut (part_near heading start (start + size - start) inside known))
+module _ (T : Table) (near heading : List ℕ) (notes : List Note) where
+  abbrev first : Note
+  first = note_at notes 0
+
+  pub one_packed : (before after : List ℕ) (r : Found) → Within heading notes → length notes ≡ 1
+      → PackedAlone near (take (first.start + first.size - first.start) (drop first.start heading)) before after r
+      → VariablePacked T near heading notes before after r
+  one_packed before after r within only alone ts g cut known =
+      let one = one_term notes ts g only in
+      let size = first.start + first.size - first.start in
+      let inside : first.start + size ≤ length heading = omega (arith, within 0 (omega arith)) in
+      let size_is : size ≡ first.size = omega arith in
+      let writes = ap (λ (n : ℕ). take n (drop first.start heading)) size_is ∙ one.2.is in
+      rw one.1 (alone T one.0 writes cut (part_near heading first.start size inside known))

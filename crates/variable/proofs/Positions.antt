@@ -15,7 +15,7 @@ use Rattle.theory.specs.Tree.{Term}
 use Rattle.theory.specs.Table.{Table}
 use Rattle.theory.specs.Least.{every, some}
 use Rattle.theory.specs.Match.{positions, in_set, lowest_at_lem, highest_at}
-use Rattle.theory.specs.Stands.{size_of, Gathered}
+use Rattle.theory.specs.Stands.{Gathered}
 use Rattle.theory.proofs.Lemmas.{some_of}
 use Rattle.meaning.specs.Limits.{set_words_lem}
 use Rattle.meaning.specs.Packing.{through, words, all_words_lem}
@@ -28,6 +28,9 @@ use Rattle.meaning.proofs.Rated.{lowest_last}
 use Rattle.meaning.proofs.Words.{through_last, words_last}
 use Rattle.sets.specs.Words.{Words}
 use Rattle.sets.proofs.Laws.{image_of}
+use Rattle.facing.specs.Notes.{note_at, numbers_of}
+use Rattle.facing.specs.declared.notes.Note.{Note}
+use Rattle.facing.proofs.Numbers.{gathered_each}
 use Rattle.variable.specs.Variable.{PackedTo}
 
 -- LAW: where the numbers that pass a test are below n, one below n passes unless none at all does
@@ -50,9 +53,9 @@ some-unless n b none past tells = go none refl (some n b) refl
     go false q false p = absurd (false≢true (inv q ∙ tells.1 (λ s. fails p s (dec_lt s n) (b s) refl)))
 
 -- LAW: there are as many positions as the first subterm has nodes
-pub positions-first : {list notes : List ℕ} {n : ℕ} {ts : List Term} → Gathered list notes n ts → 0 < n → positions ts ≡ size_of notes 0
-positions-first {ts = []} g l = absurd (omega (arith, g.count))
-positions-first {ts = t ∷ ts} g l = inv (g.each 0 l).nodes
+pub positions-first : (notes : List Note) {list : List ℕ} {n : ℕ} {ts : List Term} → Gathered list (numbers_of notes) n ts → 0 < n → positions ts ≡ (note_at notes 0).size
+positions-first notes {ts = []} g l = absurd (omega (arith, g.count))
+positions-first notes {ts = t ∷ ts} g l = inv (gathered_each notes g 0 l).nodes
 
 module _ (T : Table) (cut : ℕ) (ts : List Term) (before : List ℕ) where
   pub packed_none : PackedTo T cut ts 0 before before true 1000 1000

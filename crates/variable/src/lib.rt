@@ -3,15 +3,15 @@
 
 ghost use Rattle.std.specs.Prelude.{◌≡◌, ℕ, ◌*◌, ◌<◌, ◌≤◌, length, get_or};
 ghost use Rattle.theory.specs.Table.{Table};
-ghost use Rattle.theory.specs.Stands.{size_of};
 ghost use Rattle.meaning.specs.Limits.{set_words_lem};
 ghost use Rattle.table.specs.Sound.{table_of};
 ghost use Rattle.wide.specs.Index.{Index};
-ghost use Rattle.positions.specs.Position.{note_count, Within, Covers};
+ghost use Rattle.facing.specs.Notes.{note_at};
+ghost use Rattle.positions.specs.Position.{Within, Covers};
 ghost use Rattle.variable.specs.Variable.{PackedAlone, OwnNotes, VariablePacked};
 
 use degrees::rows::lay_where_worth;
-use facing::notes::note_at;
+use facing::notes::Note;
 use near::{lowest_of, set_of};
 use positions::faced::faced_at;
 use positions::rated::degrees_at;
@@ -46,12 +46,12 @@ fn pack_alone(near: &[u64], term: &[u16], sets: &mut [u64]) -> Found
 }
 
 // Packs the sets of a variable that has one note, by the part of the heading that the note tells of.
-fn pack_one(near: &[u64], heading: &[u16], notes: &[u16], sets: &mut [u64]) -> Found
-    requires one_note { (note_count notes.now ≡ 1) × Within heading.now notes.now × Covers heading.now near.now }
-    requires notes_in_bounds { set_words_lem * size_of notes.now 0 ≤ length sets.old }
+fn pack_one(near: &[u64], heading: &[u16], notes: &[Note], sets: &mut [u64]) -> Found
+    requires one_note { (length notes.now ≡ 1) × Within heading.now notes.now × Covers heading.now near.now }
+    requires notes_in_bounds { set_words_lem * (note_at notes.now 0).size ≤ length sets.old }
     ensures { (T : Table) → VariablePacked T near.now heading.now notes.now sets.old sets.new result }
 {
-    let note = note_at(notes, 0);
+    let note = notes[0];
     let start = note.start as usize;
     let end = start + note.size as usize;
     pack_alone(near, &heading[start..end], sets)
@@ -63,16 +63,16 @@ fn pack_shared(
     near: &[u64],
     index: &mut [u16],
     heading: &[u16],
-    notes: &[u16],
+    notes: &[Note],
     sets: &mut [u64],
 ) -> Found
     requires own_notes { Index table.file.now index.old × OwnNotes (table_of table) near.now heading.now notes.now }
-    requires notes_in_bounds { set_words_lem * size_of notes.now 0 ≤ length sets.old }
+    requires notes_in_bounds { set_words_lem * (note_at notes.now 0).size ≤ length sets.old }
     ensures index { Index table.entry.file.now index.new }
     ensures variable_packed { VariablePacked (table_of table.entry) near.now heading.now notes.now sets.old sets.new result }
 {
     // the first subterm has as many nodes as the variable has positions
-    let positions = note_at(notes, 0).size as usize;
+    let positions = notes[0].size as usize;
     lay_where_worth(table, index, heading.len());
     let mut formed = true;
     let mut degrees = Degrees {
@@ -98,15 +98,15 @@ pub fn pack_variable(
     near: &[u64],
     index: &mut [u16],
     heading: &[u16],
-    notes: &[u16],
+    notes: &[Note],
     sets: &mut [u64],
 ) -> Found
     requires own_notes { Index table.file.now index.old × OwnNotes (table_of table) near.now heading.now notes.now }
-    requires notes_in_bounds { set_words_lem * size_of notes.now 0 ≤ length sets.old }
+    requires notes_in_bounds { set_words_lem * (note_at notes.now 0).size ≤ length sets.old }
     ensures index { Index table.entry.file.now index.new }
     ensures variable_packed { VariablePacked (table_of table.entry) near.now heading.now notes.now sets.old sets.new result }
 {
-    if notes.len() / 2 == 1 {
+    if notes.len() == 1 {
         return pack_one(near, heading, notes, sets);
     }
     pack_shared(table, near, index, heading, notes, sets)

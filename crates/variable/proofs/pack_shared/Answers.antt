@@ -22,7 +22,7 @@ loop-k-init c =
 pub faced_at-faced-requires : goal.faced_at-faced-requires
 faced_at-faced-requires c =
     let own = c.requires.own_notes.1 in
-    record { within = (own.within, λ i l. (own.covers i l).3); notes_nonzero = (own.some, omega (arith, c.note_at-positions.ensures)) }
+    record { within = (own.within, λ i l. (own.covers i l).3); notes_nonzero = (own.some, omega (arith)) }
 
 pub shared_at-shared-requires : goal.shared_at-shared-requires
 shared_at-shared-requires c =
@@ -33,7 +33,7 @@ pub degrees_at-degrees-requires : goal.degrees_at-degrees-requires
 degrees_at-degrees-requires c =
     record {
       index = (c.loop-k.invariant.3, c.loop-k.invariant.4, c.loop-k.invariant.5);
-      alone_below = looked_below c.requires.own_notes.1 c.faced_at-faced.result c.faced_at-faced.ensures (omega (arith, c.note_at-positions.ensures));
+      alone_below = looked_below c.requires.own_notes.1 c.faced_at-faced.result c.faced_at-faced.ensures (omega arith);
     }
 
 pub loop-k-preserved : goal.loop-k-preserved
@@ -53,7 +53,7 @@ loop-k-preserved c =
       λ ts cut g known.
           let here = position own known g loop.k c.faced_at-faced.result c.shared_at-shared.result loop.degrees degrees.result (inv c.args.table.symbols_are)
           loop.invariant.4 c.faced_at-faced.ensures c.shared_at-shared.ensures degrees.ensures.degrees_at in
-          packed_next _ cut ts _ loop.k c.shared_at-shared.result.set.words c.is_empty.result (loop.invariant.6 ts cut g known) (omega (arith, c.requires.notes_in_bounds, c.note_at-positions.ensures)) set
+          packed_next _ cut ts _ loop.k c.shared_at-shared.result.set.words c.is_empty.result (loop.invariant.6 ts cut g known) (omega (arith, c.requires.notes_in_bounds)) set
           here.set_is c.put.ensures c.is_empty.ensures form_is here.lowest_is here.highest_is,
     )
 
@@ -62,6 +62,6 @@ returns c =
     let own = c.requires.own_notes.1 in record {
       index = c.loop-k.invariant.3;
       variable_packed = λ ts g cut known.
-          let e : c.loop-k.k ≡ positionsOf ts = omega (arith, positions-first g own.some, c.note_at-positions.ensures) in
+          let e : c.loop-k.k ≡ positionsOf ts = omega (arith, positions-first c.args.notes.now g own.some) in
           rw e at (c.loop-k.invariant.6 ts cut g known);
     }
