@@ -15,7 +15,7 @@ use Rattle.theory.specs.Table.{Table}
 use Rattle.theory.specs.Least.{least}
 use Rattle.theory.specs.Faces.{facing}
 use Rattle.theory.specs.Match.{size, positions, in_set}
-use Rattle.theory.specs.Stands.{size_of, Gathered}
+use Rattle.theory.specs.Stands.{Gathered}
 use Rattle.theory.specs.Decode.{term_of}
 use Rattle.theory.proofs.Decoding.{heading_of_lem}
 use Rattle.theory.proofs.Draw.{over-at}
@@ -32,10 +32,13 @@ use Rattle.meaning.proofs.Sound.{sound}
 use Rattle.near.specs.Near.{near_words, NearSets}
 use Rattle.terms.specs.declared.asked.Asked.{Asked}
 use Rattle.facing.specs.Faced.{ClearBy}
+use Rattle.facing.specs.Notes.{note_at, numbers_of}
+use Rattle.facing.specs.declared.notes.Note.{Note}
+use Rattle.facing.proofs.Numbers.{gathered_each, numbers-take}
 use Rattle.facing.specs.Gathering.{GatheredBy}
 use Rattle.facing.proofs.Faced.{faced_in, gathered_in}
 use Rattle.facing.proofs.Passing.{readable, few_nodes}
-use Rattle.positions.specs.Position.{note_count, Covers, NearOf}
+use Rattle.positions.specs.Position.{Covers, NearOf}
 use Rattle.variable.specs.Variable.{PackedTo, OwnNotes}
 use Rattle.variable.proofs.Positions.{positions-first}
 use Rattle.variable.specs.declared.Found.{Found}
@@ -152,28 +155,28 @@ module _ {table pattern heading : List ℕ} {cut : ℕ} {notes : List ℕ} (k : 
     covers i l =
         (omega (arith, symbols i l), (sets i l).gathered, (sets i l).within, omega (arith, symbols i l, (sound table k.sound).small))
 
-    module _ {v n : ℕ} {own : List ℕ} (g : GatheredBy pattern notes v n own) (some : 0 < count_of (faces_in table pattern heading) v) (enough : 2 * n ≤ length own) where
-      abbrev part : List ℕ
-      part = take (2 * n) own
+    module _ (own : List Note) {v n : ℕ} (g : GatheredBy pattern notes v n (numbers_of own)) (some : 0 < count_of (faces_in table pattern heading) v) (enough : n ≤ length own) where
+      abbrev part : List Note
+      part = take n own
 
-      count : note_count part ≡ n
-      count = omega (arith, length-take-le (2 * n) own enough)
+      count : length part ≡ n
+      count = length-take-le n own enough
 
       -- LAW: what is gathered for a variable that stands in the pattern is of the subterms that face it
-      pub gathered_own : Gathered heading part (note_count part) (facing v (faces_in table pattern heading))
-      gathered_own = rw count (gathered_front (gathered_in table cut pattern heading notes reads k.positive clear_by g))
+      pub gathered_own : Gathered heading (numbers_of part) (length part) (facing v (faces_in table pattern heading))
+      gathered_own = rw (count, numbers-take n own) (gathered_front (gathered_in table cut pattern heading notes reads k.positive clear_by g))
 
-      some_notes : 0 < note_count part
+      some_notes : 0 < length part
       some_notes = go (facing v (faces_in table pattern heading)) gathered_own some
         where
-          go : (ts : List Term) → Gathered heading part (note_count part) ts → 0 < positions ts → 0 < note_count part
+          go : (ts : List Term) → Gathered heading (numbers_of part) (length part) ts → 0 < positions ts → 0 < length part
           go [] h l = absurd (not-suc-le-zero l)
           go (t ∷ ts) h l = omega (arith, h.count)
 
       -- LAW: with these notes the variable can be packed, and has as many positions as the first subterm has nodes
       pub own_notes : OwnNotes (table_in table) near heading part
       own_notes =
-          record { covers = covers; symbols = symbols; few = short; within = λ o l. (gathered_own.each o l).inside; some = some_notes }
+          record { covers = covers; symbols = symbols; few = short; within = λ o l. (gathered_each part gathered_own o l).inside; some = some_notes }
 
-      pub own_first : count_of (faces_in table pattern heading) v ≡ size_of part 0
-      own_first = positions-first gathered_own some_notes
+      pub own_first : count_of (faces_in table pattern heading) v ≡ (note_at part 0).size
+      own_first = positions-first part gathered_own some_notes

@@ -15,6 +15,7 @@ use Rattle.meaning.specs.Calls.{zeros, faces_in}
 use Rattle.meaning.specs.Search.{unformed, worst}
 use Rattle.meaning.specs.Over.{over}
 use Rattle.near.specs.Near.{near_words, NearSets}
+use Rattle.facing.specs.declared.notes.Note.{Note}
 use Rattle.variable.specs.declared.Found.{Found}
 use Rattle.packing.specs.declared.Search.{Search}
 
@@ -39,9 +40,9 @@ pub record NearWhere (table pattern heading : List ℕ) (cut : ℕ) (near : List
   pub gathered : (i : ℕ) → i < length pattern → 32768 ≤ get_or pattern i 0 → NearSets (table_in table) cut heading near
 
 -- The lists that are lent are long enough.
-pub record Room (pattern heading notes own spans sets : List ℕ) : Type 0 where
-  pub of_notes : 2 * length pattern ≤ length notes
-  pub of_own : 2 * length pattern ≤ length own
+pub record Room (pattern heading : List ℕ) (notes own : List Note) (spans sets : List ℕ) : Type 0 where
+  pub of_notes : length pattern ≤ length notes
+  pub of_own : length pattern ≤ length own
   pub of_spans : span_width * variable_count ≤ length spans
   pub of_sets : set_words_lem * length heading ≤ length sets
 

@@ -7,10 +7,11 @@ ghost use Rattle.meaning.specs.Calls.{zeros};
 ghost use Rattle.meaning.specs.Over.{over};
 ghost use Rattle.wide.specs.Index.{Index};
 ghost use Rattle.facing.specs.Faced.{ClearBy};
+ghost use Rattle.facing.specs.Notes.{numbers_of};
 ghost use Rattle.packing.specs.Pack.{NearWhere, Room, VariableNoted, PackedAt};
 
 use facing::gather::gather;
-use facing::notes::note_at;
+use facing::notes::Note;
 use refusal::Degrees;
 use sets::SymbolSet;
 use terms::asked::Asked;
@@ -83,17 +84,17 @@ pub fn pack(
     asked: Asked,
     near: &[u64],
     index: &mut [u16],
-    notes: &[u16],
-    own: &mut [u16],
+    notes: &[Note],
+    own: &mut [Note],
     least: u16,
     spans: &mut [u16],
     sets: &mut [u64],
 ) -> Search
     requires index { Index asked.table.file.now index.old × Room asked.pattern.now asked.heading.now notes.now own.old spans.old sets.old }
-    requires clear { ClearBy asked.table.file.now asked.cut asked.pattern.now asked.heading.now least notes.now }
+    requires clear { ClearBy asked.table.file.now asked.cut asked.pattern.now asked.heading.now least (numbers_of notes.now) }
     requires gathered { NearWhere asked.table.file.now asked.pattern.now asked.heading.now asked.cut near.now }
     requires spans_value { spans.old ≡ zeros (length spans.old) }
-    ensures { PackedAt asked.entry.table.file.now asked.entry.pattern.now asked.entry.heading.now near.now notes.now result spans.new sets.old sets.new }
+    ensures { PackedAt asked.entry.table.file.now asked.entry.pattern.now asked.entry.heading.now near.now (numbers_of notes.now) result spans.new sets.old sets.new }
 {
     let table = asked.table;
     let mut search = Search {
@@ -108,9 +109,10 @@ pub fn pack(
         if let Kind::Variable(v) = kind_of(table.symbols, *node) {
             // a variable that was met before has a span, with one position at least
             if spans[Span::WIDTH * v as usize + 1] == 0 {
-                let end = 2 * gather(asked.pattern, notes, v, own);
-                let own = &own[..end];
-                let positions = note_at(own, 0).size;
+                let count = gather(asked.pattern, notes, v, own);
+                let own = &own[..count];
+                // the first subterm has as many nodes as the variable has positions
+                let positions = own[0].size;
                 let from = SymbolSet::WORDS * search.packed;
                 let found = pack_variable(
                     table,
