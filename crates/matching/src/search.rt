@@ -12,6 +12,7 @@ ghost use Rattle.matching.specs.Outcomes.{emptied, kept};
 use crate::clear::clear_words;
 use crate::gathering::gather_near;
 use facing::faces::face;
+use facing::notes::Note;
 use packing::{Search, pack};
 use refusal::{Degrees, Refusal};
 use sets::SymbolSet;
@@ -23,14 +24,14 @@ fn pack_matched(
     asked: Asked,
     near: &mut [u64],
     index: &mut [u16],
-    notes: &mut [u16],
-    own: &mut [u16],
+    notes: &mut [Note],
+    own: &mut [Note],
     spans: &mut [u16],
     sets: &mut [u64],
 ) -> Result<Search, Refusal>
     requires accepted { Accepted asked.table.file.now asked.pattern.now asked.heading.now asked.cut spans.old sets.old }
     requires fresh { Fresh (table_of asked.table) near.old × (index_room asked.table.file.now ≤ length index.old) }
-    requires pattern_in_bounds { (2 * length asked.pattern.now ≤ length notes.old) × (2 * length asked.pattern.now ≤ length own.old) }
+    requires pattern_in_bounds { (length asked.pattern.now ≤ length notes.old) × (length asked.pattern.now ≤ length own.old) }
     ensures inside { IfOk result (λ found. set_words_lem * found.packed ≤ length sets.old) }
     ensures matched { IfOk result (λ found. kept found spans.new sets.new ≡ match_call asked.entry.table.file.now asked.entry.pattern.now asked.entry.heading.now asked.entry.cut spans.old sets.old) }
     ensures refused { IfErr result (λ why. emptied why spans.old sets.old ≡ match_call asked.entry.table.file.now asked.entry.pattern.now asked.entry.heading.now asked.entry.cut spans.old sets.old) }
@@ -55,14 +56,14 @@ pub fn search(
     asked: Asked,
     near: &mut [u64],
     index: &mut [u16],
-    notes: &mut [u16],
-    own: &mut [u16],
+    notes: &mut [Note],
+    own: &mut [Note],
     spans: &mut [u16],
     sets: &mut [u64],
 ) -> Result<Degrees, Refusal>
     requires accepted { Accepted asked.table.file.now asked.pattern.now asked.heading.now asked.cut spans.old sets.old }
     requires fresh { Fresh (table_of asked.table) near.old × (index_room asked.table.file.now ≤ length index.old) }
-    requires pattern_in_bounds { (2 * length asked.pattern.now ≤ length notes.old) × (2 * length asked.pattern.now ≤ length own.old) }
+    requires pattern_in_bounds { (length asked.pattern.now ≤ length notes.old) × (length asked.pattern.now ≤ length own.old) }
     ensures { result_of result spans.new sets.new ≡ match_call asked.entry.table.file.now asked.entry.pattern.now asked.entry.heading.now asked.entry.cut spans.old sets.old }
 {
     match pack_matched(asked, near, index, notes, own, spans, sets) {

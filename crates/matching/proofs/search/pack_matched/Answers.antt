@@ -7,6 +7,7 @@ use Rattle.theory.specs.Match.{clash}
 use Rattle.meaning.specs.File.{table_in}
 use Rattle.meaning.specs.Calls.{zeros, faces_in}
 use Rattle.facing.specs.Faced.{ClearBy}
+use Rattle.facing.specs.Notes.{numbers_of}
 use Rattle.facing.proofs.Faced.{clash-told, clear_told}
 use Rattle.wide.proofs.Chains.{index_laid}
 use Rattle.packing.specs.Pack.{PackedAll}
@@ -34,7 +35,7 @@ returns-in-Err-clause-refused c =
 
 -- ---- no clash
 
-cleared : (c : goal.In-Ok) → let a = c.args.asked in ClearBy a.table.file.now a.cut a.pattern.now a.heading.now c.in-Ok.least c.face.new.notes
+cleared : (c : goal.In-Ok) → let a = c.args.asked in ClearBy a.table.file.now a.cut a.pattern.now a.heading.now c.in-Ok.least (numbers_of c.face.new.notes)
 cleared c = let a = c.args.asked in clear_told a.table.file.now a.cut a.pattern.now a.heading.now _ c.in-Ok.is c.face.ensures.faced_by
 
 pub gather_near-requires : goal.gather_near-requires
@@ -63,7 +64,7 @@ pack-found-requires c =
 -- ---- what is packed
 
 module _ (c : goal.After-pack-found) where
-  clear_here : let a = c.args.asked in ClearBy a.table.file.now a.cut a.pattern.now a.heading.now c.in-Ok.least c.face.new.notes
+  clear_here : let a = c.args.asked in ClearBy a.table.file.now a.cut a.pattern.now a.heading.now c.in-Ok.least (numbers_of c.face.new.notes)
   clear_here = let a = c.args.asked in clear_told a.table.file.now a.cut a.pattern.now a.heading.now _ c.in-Ok.is c.face.ensures.faced_by
 
   packed_all : let a = c.args.asked in PackedAll (table_in a.table.file.now) a.cut (faces_in a.table.file.now a.pattern.now a.heading.now) c.pack-found.result c.pack-found.new.spans c.args.sets.now c.pack-found.new.sets
