@@ -8,6 +8,7 @@ ghost use Rattle.near.specs.Near.{near_words};
 ghost use Rattle.wide.specs.Index.{index_room};
 ghost use Rattle.refusal.specs.Outcomes.{result_of};
 
+use facing::notes::Note;
 use matching::search::search;
 use near::{NEAR_WORDS, NOT_GATHERED};
 use refusal::{Degrees, Refusal};
@@ -19,6 +20,11 @@ use wide::{KEPT_ROWS, SMALL_TABLE};
 // What stands in memory before it is written. Nothing reads it; it is no 0, since zeros are laid byte by byte where other numbers are laid by
 // whole words.
 const UNWRITTEN: u16 = 1;
+
+const UNWRITTEN_NOTE: Note = Note {
+    start: UNWRITTEN,
+    size: UNWRITTEN,
+};
 
 // The symbols and the pairs of a small table and of a modest one, the symbols of one that is not yet large, and the pairs of any.
 const FEW_SYMBOLS: u16 = SMALL_TABLE;
@@ -58,12 +64,10 @@ const ALL_KEPT: usize = KEPT_ROWS as usize * (SymbolSet::ROOM as usize + 1);
 
 const ALL_INDEX: usize = 3 * SymbolSet::ROOM as usize + 1 + ALL_PAIRS + ALL_KEPT;
 
-// The nodes of a small pattern, and the notes of them, two numbers each, and of any pattern's.
+// The nodes of a small pattern, and of any: there is a note for each.
 const FEW_NODES: usize = 64;
 
-const FEW_NOTES: usize = 2 * FEW_NODES;
-
-const ALL_NOTES: usize = 2 * 1024;
+const ALL_NODES: usize = 1024;
 
 // The match in memory for near sets of so many words, for an index of so many numbers, and for so many notes.
 fn search_in<const NEAR: usize, const INDEX: usize, const NOTES: usize>(
@@ -73,14 +77,14 @@ fn search_in<const NEAR: usize, const INDEX: usize, const NOTES: usize>(
 ) -> Result<Degrees, Refusal>
     requires of_near { (near_words * (table_of asked.table).size ≤ NEAR) × (NEAR ≤ 65536) }
     requires of_index { (index_room asked.table.file.now ≤ INDEX) × (INDEX ≤ 65536) }
-    requires of_notes { (2 * length asked.pattern.now ≤ NOTES) × (NOTES ≤ 65536) }
+    requires of_notes { (length asked.pattern.now ≤ NOTES) × (NOTES ≤ 65536) }
     requires accepted { Accepted asked.table.file.now asked.pattern.now asked.heading.now asked.cut spans.old sets.old }
     ensures { result_of result spans.new sets.new ≡ match_call asked.entry.table.file.now asked.entry.pattern.now asked.entry.heading.now asked.entry.cut spans.old sets.old }
 {
     let mut near = [NOT_GATHERED; NEAR];
     let mut index = [UNWRITTEN; INDEX];
-    let mut notes = [UNWRITTEN; NOTES];
-    let mut own = [UNWRITTEN; NOTES];
+    let mut notes = [UNWRITTEN_NOTE; NOTES];
+    let mut own = [UNWRITTEN_NOTE; NOTES];
     search(
         asked, &mut near, &mut index, &mut notes, &mut own, spans, sets,
     )
@@ -99,7 +103,7 @@ fn search_noted<const NOTES: usize>(
     spans: &mut [u16],
     sets: &mut [u64],
 ) -> Result<Degrees, Refusal>
-    requires of_notes { (2 * length asked.pattern.now ≤ NOTES) × (NOTES ≤ 65536) }
+    requires of_notes { (length asked.pattern.now ≤ NOTES) × (NOTES ≤ 65536) }
     requires accepted { Accepted asked.table.file.now asked.pattern.now asked.heading.now asked.cut spans.old sets.old }
     ensures { result_of result spans.new sets.new ≡ match_call asked.entry.table.file.now asked.entry.pattern.now asked.entry.heading.now asked.entry.cut spans.old sets.old }
 {
@@ -121,8 +125,8 @@ pub fn search_sound(asked: Asked, spans: &mut [u16], sets: &mut [u64]) -> Result
     ensures { result_of result spans.new sets.new ≡ match_call asked.entry.table.file.now asked.entry.pattern.now asked.entry.heading.now asked.entry.cut spans.old sets.old }
 {
     if asked.pattern.len() <= FEW_NODES {
-        search_noted::<FEW_NOTES>(asked, spans, sets)
+        search_noted::<FEW_NODES>(asked, spans, sets)
     } else {
-        search_noted::<ALL_NOTES>(asked, spans, sets)
+        search_noted::<ALL_NODES>(asked, spans, sets)
     }
 }
