@@ -1,23 +1,59 @@
 -- The converter's answer follows from two tests, and what it leaves from one position after the other: each lays its set behind those before it.
-use mathlib.Core.Path.{◌≡◌, sym, ap, ◌∙◌}
-use mathlib.Core.List.{List, ◌++◌}
-use Prim.Native.Nat.{ℕ, ◌+◌, ◌*◌, ◌/◌, ◌%◌, ◌≤◌, ◌<◌}
+use mathlib.Core.Path.{◌≡◌, sym, ap, ap₂, ◌∙◌}
+use mathlib.Core.List.{List, ◌++◌, append-nil}
+use Prim.Native.Nat.{ℕ, ◌+◌, ◌-◌, ◌*◌, ◌/◌, ◌%◌, ◌≤◌, ◌<◌}
 use native.Mathlib.Nat.{zero-add}
 use native.Mathlib.Omega.{arith}
 use borrow.Author.Tests.{lt-ltb, le-ltb, eq-eqb, ne_eqb}
-use lib.ListN.{length, drop}
+use lib.ListN.{length, get_or, set as put, take, drop, get_or-eq_default}
+use lib.Seq.{get_or-take, get_or-drop, take_all}
 use Rattle.meaning.specs.Limits.{set_words_lem}
 use Rattle.meaning.specs.Refusals.{row8-output}
 use Rattle.meaning.specs.Packing.{through}
-use Rattle.meaning.specs.Saved.{saved_words, widened_set, widened, row8-words, widen_rows, widened_count, later_words}
+use Rattle.meaning.specs.Calls.{zeros}
+use Rattle.meaning.specs.Saved.{saved_words, saved_set_lem, widened_set, widened, row8-words, widen_rows, widened_count, later_words}
 use Rattle.meaning.specs.Over.{over}
-use Rattle.meaning.proofs.Over.{over_front, over_then}
+use Rattle.meaning.proofs.Over.{over_front, over_then, store_more}
 use Rattle.meaning.proofs.Packing.{length_below}
 use Rattle.meaning.proofs.Words.{through_last}
-use Rattle.meaning.proofs.Saved.{Whole, wide, twice_as_many}
+use Rattle.meaning.proofs.Saved.{Whole, length_saved, wide, twice_as_many, get_or_padded}
 use Rattle.std.specs.Prelude.{Ok, Err}
 use Rattle.refusal.specs.declared.Refusal.TheVariants.{Room}
 use Rattle.saved.specs.Widening.{Widen}
+
+-- ---- one set
+
+module _ (words : List ℕ) (p : ℕ) (l : saved_words * (p + 1) ≤ length words) where
+  whole_set : length (widened_set words p) ≡ set_words_lem
+  whole_set = wide words p (omega arith)
+
+  -- LAW: its words are the saved ones, and zeros
+  pub word_saved : (w : ℕ) → w < saved_words → get_or words (saved_words * p + w) 0 ≡ get_or (widened_set words p) w 0
+  word_saved w m =
+      let front = drop (saved_words * p) words in
+      sym (get_or_padded (saved_set_lem words p) (set_words_lem - saved_words) w ∙ get_or-take saved_words front w 0 m ∙ get_or-drop (saved_words * p) words w 0)
+
+  pub word_new : (w : ℕ) → saved_words ≤ w → 0 ≡ get_or (widened_set words p) w 0
+  word_new w m =
+      sym (get_or_padded (saved_set_lem words p) (set_words_lem - saved_words) w ∙ get_or-eq_default (saved_set_lem words p) 0 (omega (arith, length_saved words p (omega arith))))
+
+  -- LAW: laid over zeros word by word
+  pub word_more : (w : ℕ) (set : List ℕ) (word : ℕ) → w < set_words_lem → set ≡ over (zeros set_words_lem) 0 (take w (widened_set words p)) → word ≡ get_or (widened_set words p) w 0
+      → put set w word ≡ over (zeros set_words_lem) 0 (take (w + 1) (widened_set words p))
+  word_more w set word m e f =
+      let s = widened_set words p in
+      ap₂ (λ (xs : List ℕ) (n : ℕ). put xs w n) e f
+      ∙ ap (λ (i : ℕ). put (over (zeros set_words_lem) 0 (take w s)) i (get_or s w 0)) (sym (zero-add w))
+      ∙ store_more (zeros set_words_lem) 0 s w (omega (arith, whole_set)) (omega arith)
+
+  -- LAW: all of them are the set
+  pub all_words : (w : ℕ) → w ≡ set_words_lem → over (zeros set_words_lem) 0 (take w (widened_set words p)) ≡ widened_set words p
+  all_words w e =
+      let s = widened_set words p in
+      ap (over (zeros set_words_lem) 0) (take_all w s (omega (arith, whole_set)))
+      ∙ over_front (zeros set_words_lem) s
+      ∙ ap (λ (n : ℕ). s ++ drop n (zeros set_words_lem)) whole_set
+      ∙ append-nil s
 
 -- ---- the call
 

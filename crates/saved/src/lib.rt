@@ -1,7 +1,8 @@
 // Answers that were saved when a set had four words. Only their sets have to change: each becomes one of today, with zeros in its further words.
 #![tactic(auto)]
 
-ghost use Rattle.std.specs.Prelude.{◌≡◌, ◌+◌, ◌*◌, ◌≤◌, length};
+ghost use Rattle.std.specs.Prelude.{◌≡◌, ◌+◌, ◌*◌, ◌≤◌, ◌<◌, length, get_or};
+ghost use Rattle.meaning.specs.Limits.{set_words_lem};
 ghost use Rattle.meaning.specs.Saved.{saved_words, widened_set};
 ghost use Rattle.saved.specs.Widening.{Widen};
 
@@ -13,14 +14,29 @@ const SAVED_WORDS: usize = 4;
 
 const TIMES: usize = SymbolSet::WORDS / SAVED_WORDS;
 
-// The set that was saved at a position: its words, and zeros behind them.
+// Word w, as it is today, of the set that was saved at a position. Words go one by one, which the compiler joins with their storing; a copy of four
+// takes twice as long.
+#[tactic(auto, using(crate::proofs::Widening::word_saved, crate::proofs::Widening::word_new))]
+fn saved_word(words: &[u64], position: usize, w: usize) -> u64
+    requires { (saved_words * (position + 1) ≤ length words.now) × (w < set_words_lem) }
+    ensures { result ≡ get_or (widened_set words.now position) w 0 }
+{
+    if w < SAVED_WORDS {
+        words[SAVED_WORDS * position + w]
+    } else {
+        0
+    }
+}
+
+// The set that was saved at a position.
 fn saved_set(words: &[u64], position: usize) -> SymbolSet
     requires { saved_words * (position + 1) ≤ length words.now }
     ensures { result.words ≡ widened_set words.now position }
 {
     let mut set = [0u64; SymbolSet::WORDS];
-    let start = SAVED_WORDS * position;
-    set[..SAVED_WORDS].copy_from_slice(&words[start..start + SAVED_WORDS]);
+    for w in 0..SymbolSet::WORDS {
+        set[w] = saved_word(words, position, w);
+    }
     SymbolSet { words: set }
 }
 
