@@ -3,12 +3,12 @@
 // numbers to each end, the strings' numbers, and the strings themselves, in bytes. Numbers are two bytes each, low byte first.
 use std::io::Read;
 
-// Room for the bytes of a case, for each list, for a list's bytes, and for the known strings.
+// Room for the bytes of a case, for each list, for what is read of a list, of which the rest is dropped, and for the known strings.
 pub const BYTES: usize = 99999;
 
 pub const LONGEST: usize = 24579;
 
-pub const LISTED: usize = 2 * LONGEST;
+pub const READ: usize = 65536;
 
 pub const TEXT: usize = 65535;
 
@@ -111,10 +111,16 @@ pub fn read_bytes<'a>(rt: HostRuntime, buffer: &'a mut [u8], count: usize) -> &'
     &buffer[..done]
 }
 
+// Reads the bytes of so many numbers, and hands back those of as many as a list has.
+pub fn read_listed<'a>(rt: HostRuntime, buffer: &'a mut [u8], count: u16) -> &'a [u8] {
+    let bytes = read_bytes(rt, buffer, 2 * usize::from(count));
+    &bytes[..bytes.len().min(2 * LONGEST)]
+}
+
 // Reads so many numbers to the front of the list, fewer where it or the input ends, and hands them back.
 pub fn read_numbers<'a>(rt: HostRuntime, list: &'a mut [u16], count: u16) -> &'a [u16] {
-    let mut buffer = [0u8; LISTED];
-    let bytes = read_bytes(rt, &mut buffer, 2 * usize::from(count));
+    let mut buffer = [0u8; READ];
+    let bytes = read_listed(rt, &mut buffer, count);
     values_of(bytes.as_chunks().0, list, u16::from_le_bytes)
 }
 

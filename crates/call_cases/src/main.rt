@@ -11,33 +11,32 @@ mod saves;
 mod say;
 mod writes;
 
-use input::{BYTES, Header, Kind, LISTED, NoSuchKind};
+use input::{BYTES, Header, Kind, LONGEST, NoSuchKind, READ};
 use std::io;
 
 fn answer(rt: HostRuntime, header: Header) -> io::Result<()> {
     let mut room = [0u8; BYTES];
     let bytes = input::read_bytes(rt, &mut room, header.bytes);
-    let mut listed = [0u8; LISTED];
-    let first = input::read_bytes(rt, &mut listed, 2 * usize::from(header.first));
+    let mut listed = [0u8; READ];
+    let first = input::read_listed(rt, &mut listed, header.first);
     match Kind::try_from(header.kind) {
         Ok(kind) => ask::ask(rt, kind, header, bytes, first),
-        Err(NoSuchKind) => print!(rt; " no such kind"),
+        Err(NoSuchKind) => {
+            // one list more is read, so that the next case begins behind it
+            input::read_numbers(rt, &mut [0u16; LONGEST], header.second);
+            print!(rt; " no such kind")
+        }
     }
 }
 
-// Answers every case, up to 65,535: nothing says that the input ends.
-fn answer_all(rt: HostRuntime) -> io::Result<()> {
+// Answers every case, up to 65,535: nothing says that the input ends. Where a write fails the cases go on, each read to its end.
+fn main(rt: HostRuntime) {
     for case in 0..65535u16 {
         let Some(header) = input::read_header(rt) else {
             break;
         };
-        print!(rt; "{case}")?;
-        answer(rt, header)?;
-        println!(rt;)?;
+        let _ = print!(rt; "{case}");
+        let _ = answer(rt, header);
+        let _ = println!(rt;);
     }
-    Ok(())
-}
-
-fn main(rt: HostRuntime) {
-    let _ = answer_all(rt);
 }
