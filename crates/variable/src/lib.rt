@@ -51,7 +51,7 @@ fn pack_one(near: &[u64], heading: &[u16], notes: &[Note], sets: &mut [u64]) -> 
     requires notes_in_bounds { set_words_lem * (note_at notes.now 0).size ≤ length sets.old }
     ensures { (T : Table) → VariablePacked T near.now heading.now notes.now sets.old sets.new result }
 {
-    let note = notes[0];
+    let note = &notes[0];
     let start = note.start as usize;
     let end = start + note.size as usize;
     pack_alone(near, &heading[start..end], sets)
