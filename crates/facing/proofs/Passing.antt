@@ -21,6 +21,7 @@ use Rattle.meaning.specs.Search.{symbol_worth}
 use Rattle.meaning.proofs.Sound.{sound}
 use Rattle.meaning.proofs.Parts.{is_term_lem}
 use Rattle.meaning.proofs.Rated.{least_last, symbols_variable}
+use Rattle.table.specs.declared.sound_table.SoundTable.{SoundTable}
 use Rattle.terms.specs.declared.asked.Asked.{Asked}
 use Rattle.terms.specs.Kinds.{kind_of}
 use Rattle.terms.specs.declared.kind.Kind.TheVariants.{Neither}
@@ -33,6 +34,10 @@ use Rattle.terms.specs.Ends.{EndsIn}
 pub readable : (table xs ys : List ℕ) → SoundFile table → reading (table_in table) true xs ≡ whole → reading (table_in table) false ys ≡ whole
     → Readable (table_in table) xs ys
 readable table xs ys s p h = let t = sound table s in record { lawful = t.lawful; small = omega (arith, t.small); pattern_reads = p; heading_reads = h }
+
+-- LAW: .. over a table that was tested
+pub reads : (t : SoundTable) {xs ys : List ℕ} → reading (table_in t.file.now) true xs ≡ whole → reading (table_in t.file.now) false ys ≡ whole → Readable (table_in t.file.now) xs ys
+reads t {xs} {ys} p h = readable t.file.now xs ys t.sound p h
 
 -- LAW: .. so can those that a match is asked about
 pub readable_asked : (a : Asked) → Readable (table_in a.table.file.now) a.pattern.now a.heading.now

@@ -37,7 +37,14 @@ fn pack_matched(
     ensures refused { IfErr result (λ why. emptied why spans.old sets.old ≡ match_call asked.entry.table.file.now asked.entry.pattern.now asked.entry.heading.now asked.entry.cut spans.old sets.old) }
 {
     open_index(asked.table, index);
-    let least = match face(asked, index, notes) {
+    let least = match face(
+        asked.table,
+        asked.pattern,
+        asked.heading,
+        asked.cut,
+        index,
+        notes,
+    ) {
         Ok(least) => least,
         Err(node) => return Err(Refusal::Clash(node as u16)),
     };

@@ -9,5 +9,5 @@ use Rattle.facing.proofs.faces.face.Given as goal
 
 abbrev pub invariant-loop-i : goal.invariant-loop-i
 invariant-loop-i l =
-    (length l.rows ≡ length l.initial.rows) × (length l.notes ≡ length l.initial.notes) × RowsLaid l.asked.table.file.now l.initial.rows l.rows
-    × Passing (table_in l.asked.table.file.now) l.asked.cut l.asked.pattern.now l.asked.heading.now (numbers_of l.notes) l.least l.at l.i
+    (length l.rows ≡ length l.initial.rows) × (length l.notes ≡ length l.initial.notes) × RowsLaid l.table.file.now l.initial.rows l.rows
+    × Passing (table_in l.table.file.now) l.cut l.pattern l.heading (numbers_of l.notes) l.least l.at l.i
