@@ -48,7 +48,7 @@ fn pack_matched(
         Ok(least) => least,
         Err(node) => return Err(Refusal::Clash(node as u16)),
     };
-    gather_near(asked, near);
+    gather_near(asked.table, asked.pattern, asked.heading, asked.cut, near);
     spans.fill(0);
     let found = pack(asked, near, index, notes, own, least, spans, sets);
     match found.lacking {

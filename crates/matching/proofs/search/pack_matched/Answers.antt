@@ -40,7 +40,7 @@ cleared c = let a = c.args.asked in clear_told a.table.file.now a.cut a.pattern.
 
 pub gather_near-requires : goal.gather_near-requires
 gather_near-requires c =
-    record { fresh = c.requires.fresh.0; by_index = symbols (packable_asked c.args.asked (cleared (goal.at.gather_near-requires c).In-Ok)) }
+    record { fresh = (c.requires.fresh.0, c.args.asked.some_cut, c.args.asked.top_cut); by_index = symbols (packable_asked c.args.asked (cleared (goal.at.gather_near-requires c).In-Ok)) }
 
 pub pack-found-requires : goal.pack-found-requires
 pack-found-requires c =
