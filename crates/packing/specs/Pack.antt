@@ -39,6 +39,12 @@ pub record NearWhere (table pattern heading : List ℕ) (cut : ℕ) (near : List
   pub room : near_words * (table_in table).size ≤ length near
   pub gathered : (i : ℕ) → i < length pattern → 32768 ≤ get_or pattern i 0 → NearSets (table_in table) cut heading near
 
+-- All that at some cut.
+pub record PackableAt (table pattern heading near notes : List ℕ) : Type 0 where
+  pub cut : ℕ
+  pub packable : Packable table pattern heading cut notes
+  pub gathered : NearWhere table pattern heading cut near
+
 -- The lists that are lent are long enough.
 pub record Room (pattern heading : List ℕ) (notes own : List Note) (spans sets : List ℕ) : Type 0 where
   pub of_notes : length pattern ≤ length notes

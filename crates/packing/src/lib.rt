@@ -2,13 +2,15 @@
 #![tactic(auto)]
 
 ghost use Rattle.std.specs.Prelude.{◌≡◌, [], ◌∷◌, ◌+◌, ◌*◌, ◌≤◌, length};
+ghost use Rattle.theory.specs.Least.{least as leastOf};
 ghost use Rattle.meaning.specs.Limits.{span_width};
-ghost use Rattle.meaning.specs.Calls.{zeros};
+ghost use Rattle.meaning.specs.File.{table_in};
+ghost use Rattle.meaning.specs.Calls.{zeros, faces_in};
+ghost use Rattle.meaning.specs.Search.{symbol_worth};
 ghost use Rattle.meaning.specs.Over.{over};
 ghost use Rattle.wide.specs.Index.{Index};
-ghost use Rattle.facing.specs.Faced.{ClearBy};
 ghost use Rattle.facing.specs.Notes.{numbers_of};
-ghost use Rattle.packing.specs.Pack.{NearWhere, Room, VariableNoted, PackedAt};
+ghost use Rattle.packing.specs.Pack.{PackableAt, Room, VariableNoted, PackedAt};
 
 use facing::gather::gather;
 use facing::notes::Note;
@@ -79,7 +81,8 @@ fn note_variable(spans: &mut [u16], v: u16, positions: u16, search: Search, foun
     }
 }
 
-// Packs every variable of the pattern, each where it is first met. `own` is lent for the notes of one variable at a time.
+// Packs every variable of the pattern, each where it is first met. `own` is lent for the notes of one variable at a time. The near sets may be of any
+// cut, as long as nothing clashes at it; the cut that is asked is not looked at.
 pub fn pack(
     asked: Asked,
     near: &[u64],
@@ -91,9 +94,9 @@ pub fn pack(
     sets: &mut [u64],
 ) -> Search
     requires index { Index asked.table.file.now index.old × Room asked.pattern.now asked.heading.now notes.now own.old spans.old sets.old }
-    requires clear { ClearBy asked.table.file.now asked.cut asked.pattern.now asked.heading.now least (numbers_of notes.now) }
-    requires gathered { NearWhere asked.table.file.now asked.pattern.now asked.heading.now asked.cut near.now }
+    requires least_value { least ≡ leastOf (symbol_worth (table_in asked.table.file.now)) (faces_in asked.table.file.now asked.pattern.now asked.heading.now) }
     requires spans_value { spans.old ≡ zeros (length spans.old) }
+    requires packable_at { PackableAt asked.table.file.now asked.pattern.now asked.heading.now near.now (numbers_of notes.now) }
     ensures { PackedAt asked.entry.table.file.now asked.entry.pattern.now asked.entry.heading.now near.now (numbers_of notes.now) result spans.new sets.old sets.new }
 {
     let table = asked.table;

@@ -22,7 +22,7 @@ use Rattle.terms.proofs.Nodes.{variable_kind}
 use Rattle.packing.specs.Pack.{Packable, NearWhere}
 use Rattle.variable.specs.Variable.{OwnNotes}
 use Rattle.variable.proofs.Positions.{positions-first}
-use Rattle.packing.proofs.Notes.{rest_long, noted_next, packable_asked, near_of, gathered_own, own_notes, own_first}
+use Rattle.packing.proofs.Notes.{rest_long, noted_next, near_of, gathered_own, own_notes, own_first}
 use Rattle.packing.proofs.Searching.{searched_none}
 use Rattle.packing.proofs.Meeting.{NewAt, along_all, along_other, along_met, new_at, along_new}
 use Rattle.packing.proofs.pack.Goals as goal
@@ -58,10 +58,10 @@ module _ (c : goal.After-gather-count) where
   new_here : OwnFit (table_in c.args.asked.table.file.now) c.args.near.now c.args.asked.heading.now c.loop-node.search.packed (take c.gather-count.result c.gather-count.new.own)
   new_here =
       let a = c.args.asked in
-      let packs = packable_asked a c.requires.clear in
+      let g = c.requires.packable_at in
       let kind = kind_is a.table (get_or a.pattern.now c.loop-node.node-index 0) c.kind_of.ensures ∙ c.in-Variable.is in
-      let new = new_at packs (c.loop-node.invariant.6 a.cut packs c.requires.gathered) c.loop-node-test.true kind c.if-spans-v-eq0.true in
-      own_fit c.gather-count.new.own packs c.requires.gathered c.loop-node-test.true kind new c.gather-count.ensures (omega (arith, c.gather-count.ensures.few, c.requires.index.1.of_own, c.loop-node.invariant.2, c.gather-count.auto.own))
+      let new = new_at g.packable (c.loop-node.invariant.6 g.cut g.packable g.gathered) c.loop-node-test.true kind c.if-spans-v-eq0.true in
+      own_fit c.gather-count.new.own g.packable g.gathered c.loop-node-test.true kind new c.gather-count.ensures (omega (arith, c.gather-count.ensures.few, c.requires.index.1.of_own, c.loop-node.invariant.2, c.gather-count.auto.own))
 
   few_here : c.loop-node.search.packed + (note_at (take c.gather-count.result c.gather-count.new.own) 0).size ≤ 1024
   few_here = omega (arith, new_here.fits, new_here.own_are.few)
@@ -73,7 +73,7 @@ pub loop-node-init : goal.loop-node-init
 loop-node-init c =
     let all = length c.args.spans.now in
     let n : all ≡ span_width * variable_count + (all - span_width * variable_count) = omega (arith, c.requires.index.1.of_spans) in
-    (omega arith, refl, refl, refl, refl, c.requires.index.0, λ cut k w. searched_none _ _ _ _ _ _ c.requires.clear.lowest (c.requires.spans_value ∙ ap zeros n))
+    (omega arith, refl, refl, refl, refl, c.requires.index.0, λ cut k w. searched_none _ _ _ _ _ _ c.requires.least_value (c.requires.spans_value ∙ ap zeros n))
 
 -- the variable is one that a span has room for
 below : (t : SoundTable) (node v : ℕ) {found : Kind} → found ≡ kind_of t.symbols node → found ≡ Variable v → v < variable_count
@@ -125,12 +125,12 @@ loop-node-preserved c =
     let read = kind_is a.table (get_or a.pattern.now c.loop-node.node-index 0) c.kind_of.ensures in
     elim c.match-kind_of.branch [
       | in-Variable+then-spans-v-eq0 w ↦
-          let packs = packable_asked a c.requires.clear in
+          let g = c.requires.packable_at in
           let kind = read ∙ w.in-Variable.is in
-          let new = new_at packs (kept.6 a.cut packs c.requires.gathered) here kind w.if-spans-v-eq0.true in
+          let new = new_at g.packable (kept.6 g.cut g.packable g.gathered) here kind w.if-spans-v-eq0.true in
           let packed = w.pack_variable-found in
           let enough : w.gather-count.result ≤ length w.gather-count.new.own = omega (arith, w.gather-count.ensures.few, c.requires.index.1.of_own, kept.2, w.gather-count.auto.own) in
-          let fit = own_fit w.gather-count.new.own packs c.requires.gathered here kind new w.gather-count.ensures enough in
+          let fit = own_fit w.gather-count.new.own g.packable g.gathered here kind new w.gather-count.ensures enough in
           rw (w.index-is, w.own-is, w.spans-is, w.sets-is, w.search-is) (
             omega arith,
             packed.auto.index ∙ kept.1,

@@ -46,6 +46,7 @@ pub pack-found-requires : goal.pack-found-requires
 pack-found-requires c =
     let lent = rooms c.args.asked c.args.spans.now c.args.sets.now c.requires.accepted in
     let emptied = c.fill in
+    let clear = cleared (goal.at.pack-found-requires c).In-Ok in
     record {
       index = (
         index_laid c.open_index.ensures c.face.ensures.rows_laid c.face.auto.rows,
@@ -56,9 +57,9 @@ pack-found-requires c =
           of_sets = lent.1;
         },
       );
-      clear = cleared (goal.at.pack-found-requires c).In-Ok;
-      gathered = c.gather_near.ensures;
+      least_value = clear.lowest;
       spans_value = emptied.ensures.after (λ y e. e) ∙ ap zeros (sym emptied.auto.self);
+      packable_at = record { cut = c.args.asked.cut; packable = packable_asked c.args.asked clear; gathered = c.gather_near.ensures };
     }
 
 -- ---- what is packed
