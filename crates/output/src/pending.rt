@@ -91,12 +91,12 @@ pub fn put_answer(
 {
     let mut text = Text { buffer: out, used };
     let mut written = 0;
-    let mut next = fill(answer, Cursor::First, &mut text);
+    let mut next = fill(answer, Some(Cursor::First), &mut text);
     while let Some(cursor) = next {
         let full = write_out(rt, text.written(), text.used)?;
         written += full.written;
         text.used = full.standing;
-        next = fill(answer, cursor, &mut text);
+        next = fill(answer, Some(cursor), &mut text);
     }
     Ok(Pending {
         written,

@@ -1,10 +1,9 @@
 -- The lines that are put are the front of what was to be written.
-use Rattle.std.specs.Prelude.{Some}
 use Rattle.lines.proofs.Turns.{begun_none, begun_line, line_less}
 use Rattle.lines.proofs.filling.fill.Goals as goal
 
 pub loop-next-init : goal.loop-next-init
-loop-next-init c = let a = c.args.answer in begun_none a.outcome a.spans.now a.sets.now (Some c.args.first) c.args.text.now c.requires
+loop-next-init c = let a = c.args.answer in begun_none a.outcome a.spans.now a.sets.now c.args.first c.args.text.now c.requires
 
 pub loop-next-smaller : goal.loop-next-smaller
 loop-next-smaller c =
@@ -16,4 +15,4 @@ pub loop-next-preserved : goal.loop-next-preserved
 loop-next-preserved c =
     let a = c.args.answer in
     let put = c.next_line-next in
-    begun_line a.outcome a.spans.now a.sets.now (Some c.args.first) c.args.text.now c.in-Some.cursor c.loop-next.text put.result put.new.text (rw c.in-Some.is at c.loop-next.invariant) put.ensures
+    begun_line a.outcome a.spans.now a.sets.now c.args.first c.args.text.now c.in-Some.cursor c.loop-next.text put.result put.new.text (rw c.in-Some.is at c.loop-next.invariant) put.ensures
