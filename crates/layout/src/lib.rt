@@ -34,11 +34,14 @@ pub fn put_header(output: &mut [u8], symbols: usize, pairs: usize)
     );
 }
 
+// The arities behind the header, one by one: for a copy of them all the library for C would want memmove from outside.
 pub fn put_arities(output: &mut [u8], arities: &[u8])
     requires { 10 + length arities.now ≤ length output.old }
     ensures { output.new ≡ over output.old 10 arities.now }
 {
-    output[10..10 + arities.len()].copy_from_slice(arities);
+    for (i, arity) in arities.iter().enumerate() {
+        output[10 + i] = *arity;
+    }
 }
 
 // Every number, one behind the other from `at` on.
