@@ -1,15 +1,17 @@
 -- The number of a string is that of the first entry that has it. Where the strings rise, those below an entry stand before it and those above it after
 -- it, so that one look settles one of two halves.
-use mathlib.Core.Path.{◌≡◌, refl, sym as inv, ap, ◌∙◌}
+use mathlib.Core.Path.{◌≡◌, refl, sym as inv, ap, ap₂, ◌∙◌}
 use mathlib.Core.List.{List, [], ◌∷◌}
 use mathlib.Core.Bool.{Bool, true, false}
 use mathlib.Core.Option.{Option as Maybe, none, some as just}
 use Prim.Native.Nat.{ℕ, zero, suc, ◌+◌, ◌≤◌, ◌<◌}
 use native.Mathlib.Decide.{dec_lt}
+use native.Mathlib.Numerals.{add-one}
 use native.Mathlib.Omega.{arith}
-use lib.ListN.{length, get_or}
+use lib.ListN.{length, get_or, take}
 use Rattle.std.specs.Prelude.{Option, Some, None, MatchOption, is_some}
 use Rattle.std.specs.List.{AllWithin, HoldsAt}
+use Rattle.std.proofs.lemmas.List.{get_or-take}
 use Rattle.theory.specs.Least.{some, least_below}
 use Rattle.theory.proofs.Lemmas.{some_of, least-none, least_just}
 use Rattle.meaning.proofs.First.{none_below, least_at}
@@ -19,8 +21,28 @@ use Rattle.marc.proofs.Order.{passed_on, lower_differs, higher_differs, far}
 use Rattle.marc.proofs.Places.{least_inside}
 use Rattle.marc.proofs.Strings.{none_of, true_same}
 use Rattle.table.specs.Places.{place_in}
-use Rattle.known_strings.specs.Lent.{string_in, is_string, RisesTo}
+use Rattle.known_strings.specs.Lent.{begin_of_lem, part_in, string_in, is_string, RisesTo}
 use Rattle.known_strings.proofs.Entries.{counted, string_is, number_is}
+
+-- ---- a walk that keeps where the next string begins
+
+-- LAW: the part that it comes to is string j, so that a test of the one is a test of the other
+pub met : (text ends string : List ℕ) (n j start : ℕ) → start ≡ begin_of_lem ends j → j < n
+    → (bytes : List ℕ) (b : Bool) → bytes ≡ part_in text start (get_or (take n ends) j 0) → b ≡ same bytes string → b ≡ is_string text ends string j
+unfolding string_in
+met text ends string n j start s l bytes b e f = f ∙ ap (λ x. same x string) (e ∙ ap₂ (part_in text) s (get_or-take n ends j 0 l))
+
+-- LAW: .. and where it ends the next one begins
+pub begins_next : (ends : List ℕ) (n j : ℕ) → j < n → get_or (take n ends) j 0 ≡ begin_of_lem ends (j + 1)
+begins_next ends n j l = get_or-take n ends j 0 l ∙ inv (ap (begin_of_lem ends) (add-one j))
+
+-- LAW: what fails the test up to j, and at j, fails it up to behind j
+pub one_passed : (b : ℕ → Bool) (j : ℕ) → ((i : ℕ) → i < j → b i ≡ false) → b j ≡ false → (i : ℕ) → i < j + 1 → b i ≡ false
+one_passed b j h e i l = go (dec_lt i j)
+  where
+    go : Dec (i < j) → b i ≡ false
+    go (yes d) = h i d
+    go (no d) = let f : i ≡ j = omega arith in ap b f ∙ e
 
 -- ---- any list
 

@@ -1,19 +1,20 @@
 -- Bytes as digits of a number, the first the highest: the lower of two numbers has the lower byte where they first differ.
-use mathlib.Core.Path.{◌≡◌, sym as inv, ap₂, subst, ◌∙◌}
+use mathlib.Core.Path.{◌≡◌, sym as inv, subst}
 use mathlib.Core.List.{List}
 use mathlib.Core.Bool.{true, false, false≢true}
-use Prim.Native.Nat.{ℕ, zero, suc, ◌+◌, ◌-◌, ◌≤◌, ◌<◌}
+use Prim.Native.Nat.{ℕ, zero, suc, ◌+◌, ◌≤◌, ◌<◌, min}
 use native.Mathlib.Decide.{dec_lt}
 use native.Mathlib.Omega.{arith}
-use lib.ListN.{length, get_or, take, drop, length-drop}
-use lib.Seq.{take_all}
+use lib.ListN.{length, get_or, drop}
+use Rattle.marc.specs.Known.{same}
 use Rattle.marc.specs.Order.{before}
+use Rattle.marc.proofs.Order.{lower_differs, higher_differs}
+use Rattle.marc.proofs.Strings.{true_same}
 use Rattle.known_strings.specs.Compared.{written_at, ComparedAs}
 use Rattle.std.proofs.Common.{Ordering, Less, Equal, Greater}
 use Rattle.std.proofs.lemmas.Cmp.{ranked}
-use Rattle.std.specs.Ordering.{nat_cmp, is_ne}
-use Rattle.std.specs.Cmp.Lexicographic.{slice_cmp}
-use Rattle.known_strings.proofs.Bytes.{compared, before_lower, goes_on}
+use Rattle.std.specs.Ordering.{nat_cmp, is_ne, is_eq}
+use Rattle.known_strings.proofs.Bytes.{before_lower, goes_on, ends_first, both_end}
 
 -- all that a list holds is bytes
 abbrev pub Bytes : List ℕ → Type 0
@@ -58,9 +59,30 @@ module _ (xs ys : List ℕ) (a : Bytes xs) (b : Bytes ys) (k : ℕ) (l : k + 4 �
   four_passed Equal e n = same_number xs ys a b k 4 l m (ranked _ _ Equal e)
   four_passed Greater e n = absurd (false≢true (inv n))
 
--- LAW: the library's comparison of what is left
-pub rest_decides : (xs ys : List ℕ) (k : ℕ) (r : Ordering) → r ≡ slice_cmp nat_cmp (take (length xs - k) (drop k xs)) (take (length ys - k) (drop k ys)) → ComparedAs (drop k xs) (drop k ys) r
-rest_decides xs ys k r e = subst (ComparedAs (drop k xs) (drop k ys)) (inv (e ∙ ap₂ (slice_cmp nat_cmp) (rest xs) (rest ys))) (compared (drop k xs) (drop k ys))
-  where
-    rest : (zs : List ℕ) → take (length zs - k) (drop k zs) ≡ drop k zs
-    rest zs = take_all (length zs - k) (drop k zs) (omega (arith, length-drop k zs))
+-- ---- a byte at a time
+
+module _ (xs ys : List ℕ) (k : ℕ) (l : k < length xs) (m : k < length ys) where
+  -- LAW: bytes that are not the same decide
+  pub byte_decides : (o : Ordering) → o ≡ nat_cmp (get_or xs k 0) (get_or ys k 0) → is_ne o ≡ true → ComparedAs (drop k xs) (drop k ys) o
+  byte_decides Less e n = before_lower xs ys k l m (ranked _ _ Less e)
+  byte_decides Equal e n = absurd (false≢true n)
+  byte_decides Greater e n = before_lower ys xs k m l (ranked _ _ Greater e)
+
+  -- LAW: .. and if they are the same, what is left does
+  pub byte_passed : (o : Ordering) → o ≡ nat_cmp (get_or xs k 0) (get_or ys k 0) → is_ne o ≡ false
+      → (r : Ordering) → ComparedAs (drop (k + 1) xs) (drop (k + 1) ys) r → ComparedAs (drop k xs) (drop k ys) r
+  byte_passed Less e n = absurd (false≢true (inv n))
+  byte_passed Equal e n = goes_on xs ys k l m (ranked _ _ Equal e)
+  byte_passed Greater e n = absurd (false≢true (inv n))
+
+-- LAW: where one has ended, the lengths decide
+pub lengths_decide : (xs ys : List ℕ) (k : ℕ) → k ≡ min (length xs) (length ys) → (o : Ordering) → o ≡ nat_cmp (length xs) (length ys) → ComparedAs (drop k xs) (drop k ys) o
+lengths_decide xs ys k e Less f = let l = ranked (length xs) (length ys) Less f in ends_first xs ys k (omega arith) (omega arith)
+lengths_decide xs ys k e Equal f = let l = ranked (length xs) (length ys) Equal f in both_end xs ys k (omega arith) (omega arith)
+lengths_decide xs ys k e Greater f = let l = ranked (length xs) (length ys) Greater f in ends_first ys xs k (omega arith) (omega arith)
+
+-- LAW: two strings of one length are the same exactly if they compare so
+pub same_compared : (xs ys : List ℕ) (o : Ordering) → ComparedAs xs ys o → is_eq o ≡ same xs ys
+same_compared xs ys Less p = inv (lower_differs xs ys p)
+same_compared xs ys Equal p = inv (true_same xs ys p)
+same_compared xs ys Greater p = inv (higher_differs xs ys p)

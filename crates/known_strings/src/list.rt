@@ -4,6 +4,8 @@ ghost use Rattle.theory.specs.Least.{least_below};
 ghost use Rattle.table.specs.Places.{place_in};
 ghost use Rattle.known_strings.specs.Lent.{begin_of_lem, part_in, string_in, is_string, listed};
 
+use crate::compare::same_bytes;
+
 #[derive(Clone, Copy)]
 pub struct KnownStrings<'a> {
     pub text: &'a [u8],
@@ -47,11 +49,19 @@ impl<'a> KnownStrings<'a> {
         part(self.text, self.begin_of(j), self.ends[j] as usize)
     }
 
-    // The first of the first n strings that has these bytes.
+    // The first of the first n strings that has these bytes. Where one ends the next begins, so that no end is read twice.
     pub fn position(self, string: &[u8], n: usize) -> Option<usize>
         requires { n ≤ length self.ends.now }
         ensures { place_in result ≡ least_below n (is_string self.entry.text.now self.entry.ends.now string.now) }
     {
-        (0..n).find(|&i| self.string(i) == string)
+        let mut start = 0;
+        for (j, end) in self.ends[..n].iter().enumerate() {
+            let end = *end as usize;
+            if same_bytes(part(self.text, start, end), string) {
+                return Some(j);
+            }
+            start = end;
+        }
+        None
     }
 }

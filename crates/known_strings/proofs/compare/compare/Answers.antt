@@ -2,7 +2,7 @@
 use mathlib.Core.Path.{◌≡◌, sym, ◌∙◌}
 use Prim.Native.Nat.{◌*◌, ◌/◌, ◌+◌}
 use native.Mathlib.Omega.{arith}
-use Rattle.known_strings.proofs.Words.{four_decide, four_passed, rest_decides}
+use Rattle.known_strings.proofs.Words.{four_decide, four_passed}
 use Rattle.known_strings.proofs.compare.compare.Goals as goal
 
 pub returns-then-is_ne : goal.returns-then-is_ne
@@ -23,4 +23,4 @@ loop-i-preserved c = λ r p.
 pub returns : goal.returns
 returns c =
     let all : c.loop-i.i ≡ c.min-fours.result / 4 = omega arith in
-    rw all at c.loop-i.invariant c.cmp.result (rest_decides c.args.one.now c.args.two.now (4 * (c.min-fours.result / 4)) c.cmp.result c.cmp.ensures)
+    rw all at c.loop-i.invariant c.compare_from.result c.compare_from.ensures

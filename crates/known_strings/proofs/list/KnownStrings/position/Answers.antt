@@ -1,16 +1,32 @@
--- The search passes strings with other bytes, and stops at one with the same.
-use mathlib.Core.Path.{◌≡◌}
-use mathlib.Core.Bool.{true, false}
-use Rattle.std.proofs.Common.{rules, tests}
-use Rattle.std.proofs.lemmas.Iterator.{first_from_Range}
+-- The walk passes strings with other bytes, and stops at one with the same.
+use mathlib.Core.Path.{sym, ◌∙◌}
+use Prim.Native.Nat.{◌<◌}
+use native.Mathlib.Omega.{arith}
+use lib.Seq.{length-take-le}
+use Rattle.meaning.proofs.First.{none_below, least_at}
 use Rattle.known_strings.specs.Lent.{is_string}
-use Rattle.known_strings.proofs.Bytes.{same_from}
-use Rattle.known_strings.proofs.Seeking.{least_found}
+use Rattle.known_strings.proofs.Seeking.{met, begins_next, one_passed}
 use Rattle.known_strings.proofs.list.KnownStrings.position.Goals as goal
+use Rattle.known_strings.proofs.list.KnownStrings.position.Goals.{After-part}
+
+pub returns-then-same_bytes : goal.returns-then-same_bytes
+returns-then-same_bytes c =
+    let a = c.args in
+    let is = is_string a.self.text.now a.self.ends.now a.string.now in
+    let l : c.loop-j.j < a.n = omega (arith, length-take-le a.n a.self.ends.now c.requires) in
+    let here = met a.self.text.now a.self.ends.now a.string.now a.n c.loop-j.j c.loop-j.start c.loop-j.invariant.0 l c.part.result.now c.same_bytes.result c.part.ensures c.same_bytes.ensures in
+    sym (least_at is c.loop-j.j a.n (none_below is c.loop-j.j c.loop-j.invariant.1) (sym here ∙ c.if-same_bytes.true) l)
+
+pub loop-j-preserved : goal.loop-j-preserved
+loop-j-preserved c =
+    let a = c.args in
+    let is = is_string a.self.text.now a.self.ends.now a.string.now in
+    let l : c.loop-j.j < a.n = omega (arith, length-take-le a.n a.self.ends.now c.requires) in
+    let here = met a.self.text.now a.self.ends.now a.string.now a.n c.loop-j.j c.loop-j.start c.loop-j.invariant.0 l c.part.result.now c.same_bytes.result c.part.ensures c.same_bytes.ensures in
+    (begins_next a.self.ends.now a.n c.loop-j.j l, one_passed is c.loop-j.j c.loop-j.invariant.1 (sym here ∙ c.if-same_bytes.false))
 
 pub returns : goal.returns
 returns c =
     let a = c.args in
     let is = is_string a.self.text.now a.self.ends.now a.string.now in
-    least_found is a.n c.find.result
-    (first_from_Range _ _ _ c.find.result (λ k. is k ≡ true) (λ k. is k ≡ false) c.find.ensures.ran (λ x q k. search (rules, tests, same_from)) (λ x q k. search (rules, tests, same_from)))
+    sym (none_below is a.n (λ i l. c.loop-j.invariant.1 i (omega (arith, length-take-le a.n a.self.ends.now c.requires))))
