@@ -3,16 +3,9 @@ use crate::input::{Header, Kind};
 use crate::saves::ask_widen;
 use crate::writes::ask_write;
 use crate::{on_records, on_terms, say};
-use std::io;
 use tables::{arity_of, is_table, pair_of, symbol_degree};
 
-pub fn ask(
-    rt: HostRuntime,
-    kind: Kind,
-    header: Header,
-    table: &[u8],
-    first: &[u8],
-) -> io::Result<()> {
+pub fn ask(rt: HostRuntime, kind: Kind, header: Header, table: &[u8], first: &[u8]) {
     let asked = header.asked;
     match kind {
         Kind::SymbolDegree => say::degree(rt, symbol_degree(table, asked.x, asked.y)),

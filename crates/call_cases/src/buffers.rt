@@ -5,7 +5,6 @@ use crate::say;
 use matches::match_heading;
 use refusal::{Degrees, Refusal};
 use sets::SymbolSet;
-use std::io;
 
 // Above every number of a span.
 pub const GUARD: u16 = 9999;
@@ -15,21 +14,15 @@ const SPANS: usize = 136;
 
 pub const SETS: usize = 1026 * SymbolSet::WORDS;
 
-pub fn ask_match(
-    rt: HostRuntime,
-    asked: Asked,
-    table: &[u8],
-    pattern: &[u16],
-    heading: &[u16],
-) -> io::Result<()> {
+pub fn ask_match(rt: HostRuntime, asked: Asked, table: &[u8], pattern: &[u16], heading: &[u16]) {
     let mut spans = [GUARD; SPANS];
     let mut sets = [u64::from(GUARD); SETS];
     say::matched(
         rt,
         lend(asked, table, pattern, heading, &mut spans, &mut sets),
-    )?;
-    say_runs(rt, "spans", &spans)?;
-    say_runs(rt, "sets", &sets)
+    );
+    say_runs(rt, " spans", &spans);
+    say_runs(rt, " sets", &sets)
 }
 
 // The call, with the front of each buffer.
@@ -54,8 +47,8 @@ fn lend(
 }
 
 // A list by its runs of equal numbers.
-pub fn say_runs<T: Copy + Into<u64>>(rt: HostRuntime, what: &str, values: &[T]) -> io::Result<()> {
-    print!(rt; " {what}")?;
+pub fn say_runs<T: Copy + Into<u64>>(rt: HostRuntime, what: &str, values: &[T]) {
+    say::text(rt, what);
     let mut first = 0;
     for (i, value) in values.iter().enumerate() {
         let here: u64 = (*value).into();
@@ -64,21 +57,20 @@ pub fn say_runs<T: Copy + Into<u64>>(rt: HostRuntime, what: &str, values: &[T]) 
             None => true,
         };
         if ends {
-            say_run(rt, first, i, here)?;
+            say_run(rt, first, i, here);
             first = i + 1;
         }
     }
-    Ok(())
 }
 
 // What stands at the indexes from first to last. Zeros are left out.
-fn say_run(rt: HostRuntime, first: usize, last: usize, value: u64) -> io::Result<()> {
+fn say_run(rt: HostRuntime, first: usize, last: usize, value: u64) {
     if value == 0 {
-        return Ok(());
+        return;
     }
-    if first == last {
-        print!(rt; " {first}:{value}")
-    } else {
-        print!(rt; " {first}-{last}:{value}")
+    say::one(rt, " ", first as u64);
+    if first != last {
+        say::one(rt, "-", last as u64);
     }
+    say::one(rt, ":", value);
 }

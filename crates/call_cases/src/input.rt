@@ -1,6 +1,8 @@
 // The cases as standard input has them. A case is a header of nine numbers, a list of bytes (the table, the arities to be written, or a record) and
 // three lists of numbers (nodes, the pairs to be written, or words, four numbers to each). With a record the lists are where the known strings end, two
 // numbers to each end, the strings' numbers, and the strings themselves, in bytes. Numbers are two bytes each, low byte first.
+ghost use Rattle.std.specs.Prelude.{◌≤◌, length};
+
 use std::io::Read;
 
 // Room for the bytes of a case, for each list, for what is read of a list, of which the rest is dropped, and for the known strings.
@@ -98,7 +100,9 @@ pub fn read_header(rt: HostRuntime) -> Option<Header> {
 }
 
 // Reads so many bytes to the front of the buffer, fewer where it or the input ends, and hands them back.
-pub fn read_bytes<'a>(rt: HostRuntime, buffer: &'a mut [u8], count: usize) -> &'a [u8] {
+pub fn read_bytes<'a>(rt: HostRuntime, buffer: &'a mut [u8], count: usize) -> &'a [u8]
+    ensures { length result.now ≤ length buffer.old }
+{
     let room = count.min(buffer.len());
     let mut done = 0;
     while done < room {
@@ -112,13 +116,17 @@ pub fn read_bytes<'a>(rt: HostRuntime, buffer: &'a mut [u8], count: usize) -> &'
 }
 
 // Reads the bytes of so many numbers, and hands back those of as many as a list has.
-pub fn read_listed<'a>(rt: HostRuntime, buffer: &'a mut [u8], count: u16) -> &'a [u8] {
+pub fn read_listed<'a>(rt: HostRuntime, buffer: &'a mut [u8], count: u16) -> &'a [u8]
+    ensures { length result.now ≤ length buffer.old }
+{
     let bytes = read_bytes(rt, buffer, 2 * usize::from(count));
     &bytes[..bytes.len().min(2 * LONGEST)]
 }
 
 // Reads so many numbers to the front of the list, fewer where it or the input ends, and hands them back.
-pub fn read_numbers<'a>(rt: HostRuntime, list: &'a mut [u16], count: u16) -> &'a [u16] {
+pub fn read_numbers<'a>(rt: HostRuntime, list: &'a mut [u16], count: u16) -> &'a [u16]
+    ensures { length result.now ≤ length list.old }
+{
     let mut buffer = [0u8; READ];
     let bytes = read_listed(rt, &mut buffer, count);
     values_of(bytes.as_chunks().0, list, u16::from_le_bytes)
@@ -131,6 +139,7 @@ pub fn values_of<'a, A: Copy, T: Copy, F: Fn(A) -> T>(
     value: F,
 ) -> &'a [T]
     requires { F.IsAlwaysCallable value }
+    ensures { length result.now ≤ length list.old }
 {
     let count = written.len().min(list.len());
     for (place, one) in list.iter_mut().zip(written) {

@@ -12,9 +12,8 @@ mod say;
 mod writes;
 
 use input::{BYTES, Header, Kind, LONGEST, NoSuchKind, READ};
-use std::io;
 
-fn answer(rt: HostRuntime, header: Header) -> io::Result<()> {
+fn answer(rt: HostRuntime, header: Header) {
     let mut room = [0u8; BYTES];
     let bytes = input::read_bytes(rt, &mut room, header.bytes);
     let mut listed = [0u8; READ];
@@ -24,19 +23,19 @@ fn answer(rt: HostRuntime, header: Header) -> io::Result<()> {
         Err(NoSuchKind) => {
             // one list more is read, so that the next case begins behind it
             input::read_numbers(rt, &mut [0u16; LONGEST], header.second);
-            print!(rt; " no such kind")
+            say::text(rt, " no such kind");
         }
     }
 }
 
-// Answers every case, up to 65,535: nothing says that the input ends. Where a write fails the cases go on, each read to its end.
+// Answers every case, up to 65,535: nothing says that the input ends. Where a write fails the cases go on, and so does what is said of each.
 fn main(rt: HostRuntime) {
     for case in 0..65535u16 {
         let Some(header) = input::read_header(rt) else {
             break;
         };
         let _ = print!(rt; "{case}");
-        let _ = answer(rt, header);
+        answer(rt, header);
         let _ = println!(rt;);
     }
 }

@@ -3,13 +3,12 @@ use crate::buffers::GUARD;
 use crate::input::{Asked, Header, LONGEST, TEXT, read_bytes, read_numbers, values_of};
 use crate::say;
 use exchange::{Fault, read_heading};
-use std::io;
 
 // More numbers than any case lends.
 const NODES: usize = 6;
 
 // The strings themselves come last. An end has two numbers, the low one first.
-pub fn ask(rt: HostRuntime, header: Header, bytes: &[u8], first: &[u8]) -> io::Result<()> {
+pub fn ask(rt: HostRuntime, header: Header, bytes: &[u8], first: &[u8]) {
     let mut places = [0u32; LONGEST];
     let ends = values_of(first.as_chunks().0, &mut places, u32::from_le_bytes);
     let mut listed = [0u16; LONGEST];
@@ -20,8 +19,8 @@ pub fn ask(rt: HostRuntime, header: Header, bytes: &[u8], first: &[u8]) -> io::R
     say::headed(
         rt,
         lend(header.asked, bytes, text, ends, numbers, &mut nodes),
-    )?;
-    say::nodes(rt, "output", &nodes)
+    );
+    say::nodes(rt, " output ", &nodes)
 }
 
 // The call, with the front of the output.

@@ -3,15 +3,8 @@ use crate::buffers::ask_match;
 use crate::input::{Header, LONGEST, OnTerms, read_numbers, values_of};
 use crate::say;
 use headings::{degree_of_headings, nearer, subterm};
-use std::io;
 
-pub fn ask(
-    rt: HostRuntime,
-    which: OnTerms,
-    header: Header,
-    table: &[u8],
-    first: &[u8],
-) -> io::Result<()> {
+pub fn ask(rt: HostRuntime, which: OnTerms, header: Header, table: &[u8], first: &[u8]) {
     let mut room = [0u16; LONGEST];
     let first = values_of(first.as_chunks().0, &mut room, u16::from_le_bytes);
     let mut more = [0u16; LONGEST];
@@ -19,7 +12,7 @@ pub fn ask(
     match which {
         OnTerms::Degree => say::degree(rt, degree_of_headings(table, first, second)),
         OnTerms::Subterm => {
-            say::nodes(rt, "part", subterm(table, first, header.asked.x as usize))
+            say::nodes(rt, " part ", subterm(table, first, header.asked.x as usize))
         }
         OnTerms::Nearer => ask_nearer(rt, header.third, table, first, second),
         OnTerms::Match => ask_match(rt, header.asked, table, first, second),
@@ -27,14 +20,8 @@ pub fn ask(
 }
 
 // The one call that takes three lists.
-fn ask_nearer(
-    rt: HostRuntime,
-    third: u16,
-    table: &[u8],
-    heading: &[u16],
-    one: &[u16],
-) -> io::Result<()> {
+fn ask_nearer(rt: HostRuntime, third: u16, table: &[u8], heading: &[u16], one: &[u16]) {
     let mut room = [0u16; LONGEST];
     let two = read_numbers(rt, &mut room, third);
-    say::nodes(rt, "nearer", nearer(table, heading, one, two))
+    say::nodes(rt, " nearer ", nearer(table, heading, one, two))
 }
