@@ -8,23 +8,23 @@ ghost use Rattle.marc_record.specs.Frames.{Directory, BaseBy, EntryTells, Entrie
 use crate::number::number;
 
 // How many bytes the leader has, and in how many digits the record's length and the base address stand in it.
-const LEADER: usize = 24;
+pub const LEADER: usize = 24;
 
 const LEADER_DIGITS: usize = 5;
 
-const BASE_ADDRESS: usize = 12;
+pub const BASE_ADDRESS: usize = 12;
 
 // The base address of a record without fields: behind the leader and the directory's mark. Then there is only the record's mark.
-const FIRST_BASE: usize = LEADER + 1;
+pub const FIRST_BASE: usize = LEADER + 1;
 
 const SHORTEST: usize = FIRST_BASE + 1;
 
 // How many bytes an entry has, and where in it the field's length and start stand.
 pub const ENTRY: usize = 12;
 
-const FIELD_LENGTH: usize = 3;
+pub const FIELD_LENGTH: usize = 3;
 
-const FIELD_START: usize = 7;
+pub const FIELD_START: usize = 7;
 
 // The bytes that end a field or the directory, and the record.
 const FIELD_MARK: u8 = 0x1e;

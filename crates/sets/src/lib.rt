@@ -82,6 +82,14 @@ impl SymbolSet {
         }
     }
 
+    // The least symbol of the set that is not below `from`, as `next_member` says, for who asks from some symbol on.
+    pub fn next(self, from: u16, end: u16) -> u16
+        requires { (from ≤ set_room) × (end ≤ set_room) }
+        ensures { NextBelow set_words_lem self.words from end result }
+    {
+        next_member(&self.words, from, end)
+    }
+
     // Whether the set has no symbol.
     pub fn is_empty(self) -> bool
         ensures { (result ≡ true) ↔ ((k : ℕ) → member self.words k ≡ false) }
@@ -129,7 +137,7 @@ impl<'a> Iterator for Members<'a> {
 
 // The least symbol of a set that is not below `from`, or some number that is not below `end` where none is below that. Words past the end
 // are not looked at, so that the symbols of a small table cost no more than they are.
-fn next_member(words: &[u64; SymbolSet::WORDS], from: u16, end: u16) -> u16
+pub fn next_member(words: &[u64; SymbolSet::WORDS], from: u16, end: u16) -> u16
     requires { (from ≤ set_room) × (end ≤ set_room) }
     ensures { NextBelow set_words_lem words.now from end result }
 {
