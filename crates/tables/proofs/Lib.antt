@@ -2,3 +2,4 @@
 pub mod OneTable
 pub mod OneWriting
 pub mod Tied
+pub mod Tables

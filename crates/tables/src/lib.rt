@@ -21,6 +21,7 @@ pub fn is_table(table: &[u8]) -> Result<(), Refusal>
 }
 
 // How near two symbols are; where a number is none, which of the two.
+#[tactic(auto, using(crate::proofs::Tables::degree_refused))]
 pub fn symbol_degree(table: &[u8], a: u16, b: u16) -> Result<u16, Refusal>
     ensures { SymbolDegree table.now a b result }
 {
