@@ -14,7 +14,8 @@ const LINE_FEED: u8 = 10;
 
 const CARRIAGE_RETURN: u8 = 13;
 
-// Which of some bytes is the first mark.
+// Which of some bytes is the first mark. Inlined into its callers the search would reckon its place anew at each byte.
+#[inline(never)]
 fn first_mark(bytes: &[u8]) -> Option<usize>
     ensures { MatchOption result ((k : ℕ) → k < length bytes.now → slice_index bytes.now k ≡ record_mark → ⊥) (λ first. (first < length bytes.now) × (slice_index bytes.now first ≡ record_mark) × ((k : ℕ) → k < first → slice_index bytes.now k ≡ record_mark → ⊥)) }
 {

@@ -31,7 +31,8 @@ pub fn find_100<'a>(frame: Frame<'a>) -> Option<&'a [u8]>
     Some(frame.field(e))
 }
 
-// The text that some bytes begin with: up to the next hex 1F, or all.
+// The text that some bytes begin with: up to the next hex 1F, or all. Inlined into its callers the search would reckon its place anew at each byte.
+#[inline(never)]
 fn text_to_mark<'a>(bytes: &'a [u8]) -> &'a [u8]
     ensures { result.now ≡ text_to bytes.entry.now }
 {
