@@ -1,9 +1,6 @@
 -- The lines that are put are the front of what was to be written.
-use Rattle.lines.proofs.Turns.{begun_none, begun_line, line_less}
+use Rattle.lines.proofs.Turns.{begun_line, line_less}
 use Rattle.lines.proofs.filling.fill.Goals as goal
-
-pub loop-next-init : goal.loop-next-init
-loop-next-init c = let a = c.args.answer in begun_none a.outcome a.spans.now a.sets.now c.args.first c.args.text.now c.requires
 
 pub loop-next-smaller : goal.loop-next-smaller
 loop-next-smaller c =
